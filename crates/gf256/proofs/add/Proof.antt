@@ -1,0 +1,13 @@
+-- `gf256::add` meets its contract: the sum is exclusive or.
+-- Assumes nothing.
+use mathlib.Core.Path.{refl}
+use Rattle.gf256.specs.Byte.{_⊕_}
+use Rattle.gf256.proofs.add.Statement.{statement}
+use Rattle.gf256.proofs.add.Tie as tie
+
+returns : tie.Need-returns
+unfolding _⊕_
+returns c = refl
+
+pub add-spec : {M : Type 1} → statement M
+add-spec = tie.close (tie.spec returns)

@@ -1,0 +1,54 @@
+-- Byte arithmetic, FIPS 197 section 4. A number stands for a polynomial over {0, 1}: its binary digit of place i is the coefficient of x^i.
+-- All definitions are total on the natural numbers; a byte is a number below 256.
+-- Assumes nothing.
+use mathlib.Core.Bool.{cond}
+use Prim.Native.Nat.{ℕ, zero, suc, _+_, _*_, _/_, _%_}
+use lib.Bits.{bitXor}
+use lib.Dec.{eqb}
+
+infixl 65 _⊕_
+infixl 70 _⊗_
+-- 4.1: the sum, and the difference, is exclusive or
+unfoldable pub _⊕_ : ℕ → ℕ → ℕ
+a ⊕ b = bitXor a b
+
+-- 4.2: the polynomial by which products are reduced, x^8 + x^4 + x^3 + x + 1
+abbrev pub modulus : ℕ
+modulus = 0x11b
+
+-- through the binary digits of n, the highest first: `step` takes what is made so far, from 0, and the next digit. k bounds the number of digits
+abbrev pub through : (ℕ → ℕ → ℕ) → ℕ → ℕ → ℕ
+through step zero n = 0
+through step (suc k) zero = 0
+through step (suc k) (suc n) = step (through step k (suc n / 2)) (suc n % 2)
+
+-- the product of two polynomials: for each digit of b, what is made so far times x, and a besides where the digit is 1
+unfoldable pub product : ℕ → ℕ → ℕ
+product a b = through (λ made digit. made * 2 ⊕ a * digit) b b
+
+-- a number below 512, less the modulus where it is 256 or more
+unfoldable pub cut : ℕ → ℕ
+cut n = n ⊕ n / 256 * modulus
+
+-- the remainder by the modulus, by long division
+unfoldable pub reduce : ℕ → ℕ
+reduce p = through (λ made digit. cut (made * 2 + digit)) p p
+
+-- 4.2: the product of two bytes
+unfoldable pub _⊗_ : ℕ → ℕ → ℕ
+a ⊗ b = reduce (product a b)
+
+unfoldable pub power : ℕ → ℕ → ℕ
+power a zero = 1
+power a (suc n) = a ⊗ power a n
+
+-- the largest number below n whose product with a is 1, and 0 where there is none
+unfoldable pub inverseBelow : ℕ → ℕ → ℕ
+inverseBelow zero a = 0
+inverseBelow (suc n) a =
+    let rest : ℕ = inverseBelow n a in
+    cond (eqb (a ⊗ n) 1) n rest
+
+-- the inverse of a byte; that of 0 is 0
+unfoldable pub inverse : ℕ → ℕ
+inverse a = inverseBelow 256 a

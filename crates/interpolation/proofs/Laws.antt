@@ -1,0 +1,8 @@
+-- The laws of polynomials and of interpolation over bytes, for whoever cites them.
+-- Assumes nothing.
+pub use Rattle.interpolation.proofs.Polynomial.{eval-plus, eval-scale, eval-zeros, eval-append, eval-append-zeros, eval-linear, eval-none, eval-more, eval-down, eval-byte, sum-zero}
+pub use Rattle.interpolation.proofs.Polynomial.{plus-at, plus-byte, plus-length, plus-length-longer, scale-at, scale-byte, scale-length}
+pub use Rattle.interpolation.proofs.Polynomial.{linear-first, linear-next, linear-byte, linear-length, product-byte, product-length, product-next, product-zero, product-nonzero}
+pub use Rattle.interpolation.proofs.Unique.{unique}
+pub use Rattle.interpolation.proofs.Through.{through-byte, through-length, through-values, fitted-values, fitted-length, fitted-byte, interpolation}
+pub use Rattle.interpolation.proofs.Basis.{basis-length, basis-byte, basis-rule, basis-at, basis-unique, basis-formula, sumTo-same, sumTo-zero, sumTo-one, interpolate-back}

@@ -1,0 +1,5 @@
+mod Polynomial
+mod Unique
+mod Through
+mod Basis
+pub mod Laws

@@ -1,0 +1,186 @@
+-- Laws of polynomials: values, lengths, bytes and single coefficients of sums, multiples and products. Each is an induction over the coefficients.
+-- Assumes nothing.
+use mathlib.Core.Path.{_≡_, refl, sym, ap, _∙_}
+use mathlib.Core.Logic.{_≢_, _⊎_, inl, inr}
+use mathlib.Core.List.{List, [], _∷_, _++_}
+use Prim.Native.Nat.{ℕ, zero, suc, _-_, _≤_, _<_}
+use native.Mathlib.Nat.{le-of-suc-le-suc, not-suc-le-zero, suc-inj}
+use native.Mathlib.Omega.{arith}
+use lib.Dec.{lit<}
+use lib.ListN.{length, getD, drop, replicate}
+use lib.Seq.{drop-cons}
+use Rattle.lists.specs.Each.{Each, Byte}
+use Rattle.gf256.specs.Byte.{_⊕_, _⊗_, power}
+use Rattle.gf256.proofs.Laws.{⊕-assoc, ⊕-left-comm, zero-⊕, ⊕-zero, ⊕-self, ⊕-twice, ⊕-byte, ⊗-assoc, ⊗-left-comm, ⊗-⊕, ⊕-⊗, ⊗-zero, zero-⊗, one-⊗, ⊗-byte, no-zero-divisors}
+use Rattle.interpolation.specs.Polynomial.{next, eval, plus, scale, linear, product}
+
+-- ---- values
+
+pub eval-plus : (x : ℕ) (cs ds : List ℕ) → eval x (plus cs ds) ≡ eval x cs ⊕ eval x ds
+unfolding next eval plus
+eval-plus x [] ds = sym (zero-⊕ (eval x ds))
+eval-plus x (c ∷ cs) [] = sym (⊕-zero (eval x (c ∷ cs)))
+eval-plus x (c ∷ cs) (d ∷ ds) = simp (eval-plus x cs ds, ⊗-⊕, ⊕-assoc, ⊕-left-comm)
+
+pub eval-scale : (x k : ℕ) (cs : List ℕ) → eval x (scale k cs) ≡ k ⊗ eval x cs
+unfolding next eval scale
+eval-scale x k [] = sym (⊗-zero k)
+eval-scale x k (c ∷ cs) = simp (eval-scale x k cs, ⊗-⊕, ⊗-left-comm x k)
+
+pub eval-zeros : (x n : ℕ) → eval x (replicate n 0) ≡ 0
+unfolding next eval
+eval-zeros x zero = refl
+eval-zeros x (suc n) = simp (eval-zeros x n, zero-⊕, ⊗-zero)
+
+-- the coefficients after the first ones count times a power of x
+pub eval-append : (x : ℕ) (cs ds : List ℕ) → Byte (eval x ds) → eval x (cs ++ ds) ≡ eval x cs ⊕ power x (length cs) ⊗ eval x ds
+unfolding next eval power
+eval-append x [] ds h = simp (zero-⊕, one-⊗ (eval x ds) h)
+eval-append x (c ∷ cs) ds h = simp (eval-append x cs ds h, ⊗-⊕, ⊗-assoc, ⊕-assoc)
+
+-- zeros of the highest degrees change no value
+pub eval-append-zeros : (x : ℕ) (cs : List ℕ) (n : ℕ) → eval x (cs ++ replicate n 0) ≡ eval x cs
+unfolding next eval
+eval-append-zeros x [] n = eval-zeros x n
+eval-append-zeros x (c ∷ cs) n = simp (eval-append-zeros x cs n)
+
+pub eval-linear : (x p low : ℕ) (cs : List ℕ) → eval x (linear p low cs) ≡ low ⊕ (x ⊕ p) ⊗ eval x cs
+unfolding next eval linear
+eval-linear x p low [] = simp (⊗-zero)
+eval-linear x p low (c ∷ cs) = simp (eval-linear x p c cs, ⊗-⊕, ⊕-⊗, ⊗-left-comm, ⊕-assoc, ⊕-left-comm)
+
+-- from the highest coefficient down, as a loop takes them: nothing yet, and one coefficient more
+pub eval-none : (x : ℕ) (cs : List ℕ) → eval x (drop (length cs) cs) ≡ 0
+unfolding eval
+eval-none x [] = refl
+eval-none x (c ∷ cs) = eval-none x cs
+
+pub eval-more : (x : ℕ) (cs : List ℕ) (j : ℕ) → j < length cs → eval x (drop j cs) ≡ next x (eval x (drop (suc j) cs)) (getD cs j 0)
+unfolding eval
+eval-more x cs j h = ap (eval x) (drop-cons cs j 0 h)
+
+-- the same where j is counted down
+pub eval-down : (x : ℕ) (cs : List ℕ) (j : ℕ) → 0 < j → j ≤ length cs → eval x (drop (j - 1) cs) ≡ next x (eval x (drop j cs)) (getD cs (j - 1) 0)
+eval-down x cs j p h =
+    let e : suc (j - 1) ≡ j = omega arith in
+    rw e at (eval-more x cs (j - 1) (omega arith))
+
+-- the value of a polynomial of bytes is a byte
+pub eval-byte : (x : ℕ) (cs : List ℕ) → Each Byte cs → Byte (eval x cs)
+unfolding next eval
+eval-byte x [] h = lit< tt
+eval-byte x (c ∷ cs) h = ⊕-byte c (x ⊗ eval x cs) (h .0) (⊗-byte x (eval x cs))
+
+-- two numbers whose sum is 0 are equal
+pub sum-zero : (a b : ℕ) → a ⊕ b ≡ 0 → a ≡ b
+sum-zero a b e = sym (⊕-zero a) ∙ ap (_⊕_ a) (sym e) ∙ ⊕-twice a b
+
+-- ---- sums
+
+pub plus-at : (cs ds : List ℕ) (e : ℕ) → getD (plus cs ds) e 0 ≡ getD cs e 0 ⊕ getD ds e 0
+unfolding plus
+plus-at [] ds e = sym (zero-⊕ (getD ds e 0))
+plus-at (c ∷ cs) [] e = sym (⊕-zero (getD (c ∷ cs) e 0))
+plus-at (c ∷ cs) (d ∷ ds) zero = refl
+plus-at (c ∷ cs) (d ∷ ds) (suc e) = plus-at cs ds e
+
+pub plus-byte : (cs ds : List ℕ) → Each Byte cs → Each Byte ds → Each Byte (plus cs ds)
+unfolding plus
+plus-byte [] ds h k = k
+plus-byte (c ∷ cs) [] h k = h
+plus-byte (c ∷ cs) (d ∷ ds) h k = (⊕-byte c d (h .0) (k .0), plus-byte cs ds (h .1) (k .1))
+
+pub plus-length : (cs ds : List ℕ) → length cs ≡ length ds → length (plus cs ds) ≡ length cs
+unfolding plus
+plus-length [] ds n = sym n
+plus-length (c ∷ cs) [] n = refl
+plus-length (c ∷ cs) (d ∷ ds) n = ap suc (plus-length cs ds (suc-inj n))
+
+-- the same where the second is no shorter
+pub plus-length-longer : (cs ds : List ℕ) → length cs ≤ length ds → length (plus cs ds) ≡ length ds
+unfolding plus
+plus-length-longer [] ds h = refl
+plus-length-longer (c ∷ cs) [] h = absurd (not-suc-le-zero h)
+plus-length-longer (c ∷ cs) (d ∷ ds) h = ap suc (plus-length-longer cs ds (le-of-suc-le-suc h))
+
+-- ---- multiples
+
+pub scale-at : (k : ℕ) (cs : List ℕ) (e : ℕ) → getD (scale k cs) e 0 ≡ k ⊗ getD cs e 0
+unfolding scale
+scale-at k [] e = sym (⊗-zero k)
+scale-at k (c ∷ cs) zero = refl
+scale-at k (c ∷ cs) (suc e) = scale-at k cs e
+
+pub scale-byte : (k : ℕ) (cs : List ℕ) → Each Byte (scale k cs)
+unfolding scale
+scale-byte k [] = tt
+scale-byte k (c ∷ cs) = (⊗-byte k c, scale-byte k cs)
+
+pub scale-length : (k : ℕ) (cs : List ℕ) → length (scale k cs) ≡ length cs
+unfolding scale
+scale-length k [] = refl
+scale-length k (c ∷ cs) = ap suc (scale-length k cs)
+
+-- ---- low plus (x + p) times a polynomial
+
+pub linear-first : (p low : ℕ) (cs : List ℕ) → getD (linear p low cs) 0 0 ≡ low ⊕ p ⊗ getD cs 0 0
+unfolding linear
+linear-first p low [] = sym (ap (_⊕_ low) (⊗-zero p) ∙ ⊕-zero low)
+linear-first p low (c ∷ cs) = refl
+
+pub linear-next : (p low : ℕ) (cs : List ℕ) (e : ℕ) → getD (linear p low cs) (suc e) 0 ≡ getD cs e 0 ⊕ p ⊗ getD cs (suc e) 0
+unfolding linear
+linear-next p low [] e = sym (ap (_⊕_ 0) (⊗-zero p) ∙ ⊕-zero 0)
+linear-next p low (c ∷ cs) zero = linear-first p c cs
+linear-next p low (c ∷ cs) (suc e) = linear-next p c cs e
+
+pub linear-byte : (p low : ℕ) (cs : List ℕ) → Byte low → Each Byte cs → Each Byte (linear p low cs)
+unfolding linear
+linear-byte p low [] l h = (l, tt)
+linear-byte p low (c ∷ cs) l h = (⊕-byte low (p ⊗ c) l (⊗-byte p c), linear-byte p c cs (h .0) (h .1))
+
+pub linear-length : (p low : ℕ) (cs : List ℕ) → length (linear p low cs) ≡ suc (length cs)
+unfolding linear
+linear-length p low [] = refl
+linear-length p low (c ∷ cs) = ap suc (linear-length p c cs)
+
+-- ---- the product of x + p over the points p
+
+pub product-byte : (ps : List ℕ) → Each Byte (product ps)
+unfolding product
+product-byte [] = (lit< tt, tt)
+product-byte (p ∷ ps) = linear-byte p 0 (product ps) (lit< tt) (product-byte ps)
+
+pub product-length : (ps : List ℕ) → length (product ps) ≡ suc (length ps)
+unfolding product
+product-length [] = refl
+product-length (p ∷ ps) = linear-length p 0 (product ps) ∙ ap suc (product-length ps)
+
+pub product-next : (x p : ℕ) (ps : List ℕ) → eval x (product (p ∷ ps)) ≡ (x ⊕ p) ⊗ eval x (product ps)
+unfolding product
+product-next x p ps = eval-linear x p 0 (product ps) ∙ zero-⊕ _
+
+-- it is 0 at each of its points
+pub product-zero : (ps : List ℕ) → Each (λ x. eval x (product ps) ≡ 0) ps
+product-zero [] = tt
+product-zero (p ∷ ps) =
+    (product-next p p ps ∙ ap (λ (t : ℕ). t ⊗ eval p (product ps)) (⊕-self p) ∙ zero-⊗ (eval p (product ps)), more ps (product-zero ps))
+  where
+    more : (xs : List ℕ) → Each (λ x. eval x (product ps) ≡ 0) xs → Each (λ x. eval x (product (p ∷ ps)) ≡ 0) xs
+    more [] h = tt
+    more (x ∷ xs) h = (product-next x p ps ∙ ap (_⊗_ (x ⊕ p)) (h .0) ∙ ⊗-zero (x ⊕ p), more xs (h .1))
+
+-- and at no other byte
+pub product-nonzero : (x : ℕ) → Byte x → (ps : List ℕ) → Each Byte ps → Each (λ p. x ≢ p) ps → eval x (product ps) ≢ 0
+unfolding next eval product
+product-nonzero x hx [] b n e =
+    let one : _≡_ {A = ℕ} 1 0 = sym (⊕-zero 1) ∙ ap (_⊕_ 1) (sym (⊗-zero x)) ∙ e in
+    omega arith
+product-nonzero x hx (p ∷ ps) b n e =
+    split
+    (no-zero-divisors (x ⊕ p) (eval x (product ps)) (⊕-byte x p hx (b .0)) (eval-byte x (product ps) (product-byte ps)) (sym (product-next x p ps) ∙ e))
+    (product-nonzero x hx ps (b .1) (n .1))
+  where
+    split : (x ⊕ p ≡ 0) ⊎ (eval x (product ps) ≡ 0) → eval x (product ps) ≢ 0 → ⊥
+    split (inl z) rest = n .0 (sum-zero x p z)
+    split (inr z) rest = rest z

@@ -1,0 +1,93 @@
+-- Laws of `Each`, and the test `distinct` against `Distinct`. Each is an induction over the list.
+-- Assumes nothing.
+use mathlib.Core.Path.{_≡_, refl, ap₂}
+use mathlib.Core.Bool.{true, false, not}
+use mathlib.Core.Logic.{_≢_}
+use mathlib.Core.List.{List, [], _∷_, _++_, map}
+use Prim.Native.Nat.{ℕ, zero, suc, _<_, suc-le-suc}
+use native.Mathlib.Nat.{le-of-suc-le-suc, not-suc-le-zero, le-refl, le-step, zero-lt-suc}
+use lib.Dec.{eqb}
+use lib.ListN.{length, getD, replicate}
+use borrow.Author.Tests.{eqb-false, ne-eqb, not-true}
+use Rattle.lists.specs.Each.{Each, Distinct, occurs, distinct}
+use Rattle.lists.specs.Table.{tabulate}
+use Rattle.lists.proofs.Tests.{both, neither}
+
+module _ {ℓ} {A : Type ℓ} (P : A → Type 0) where
+  pub each-getD : (l : List A) (i : ℕ) (d : A) → i < length l → Each P l → P (getD l i d)
+  each-getD [] i d b h = absurd (not-suc-le-zero b)
+  each-getD (x ∷ xs) zero d b h = h .0
+  each-getD (x ∷ xs) (suc i) d b h = each-getD xs i d (le-of-suc-le-suc b) (h .1)
+
+  -- the other way: what holds at every place holds of each entry
+  pub each-of : (l : List A) (d : A) → ((i : ℕ) → i < length l → P (getD l i d)) → Each P l
+  each-of [] d h = tt
+  each-of (x ∷ xs) d h = (h 0 (zero-lt-suc (length xs)), each-of xs d (λ i b. h (suc i) (suc-le-suc b)))
+
+  pub each-imp : (Q : A → Type 0) → ((x : A) → P x → Q x) → (l : List A) → Each P l → Each Q l
+  each-imp Q f [] h = tt
+  each-imp Q f (x ∷ xs) h = (f x (h .0), each-imp Q f xs (h .1))
+
+  pub each-append : (l m : List A) → Each P l → Each P m → Each P (l ++ m)
+  each-append [] m h k = k
+  each-append (x ∷ xs) m h k = (h .0, each-append xs m (h .1) k)
+
+  pub each-replicate : (n : ℕ) (x : A) → P x → Each P (replicate n x)
+  each-replicate zero x h = tt
+  each-replicate (suc n) x h = (h, each-replicate n x h)
+
+  pub each-tabulate : (n : ℕ) (f : ℕ → A) → ((i : ℕ) → i < n → P (f i)) → Each P (tabulate n f)
+  unfolding tabulate
+  each-tabulate zero f h = tt
+  each-tabulate (suc n) f h = each-append (tabulate n f) (f n ∷ []) (each-tabulate n f (λ i b. h i (le-step b))) (h n (le-refl (suc n)), tt)
+
+-- a list of one value has it at every place, also beyond its end
+pub replicate-at {ℓ} : {A : Type ℓ} (n i : ℕ) (x : A) → getD (replicate n x) i x ≡ x
+replicate-at zero i x = refl
+replicate-at (suc n) zero x = refl
+replicate-at (suc n) (suc i) x = replicate-at n i x
+
+-- ---- maps
+
+module _ {ℓ ℓ′} {A : Type ℓ} {B : Type ℓ′} where
+  pub getD-map : (f : A → B) (l : List A) (i : ℕ) (d : A) (e : B) → i < length l → getD (map f l) i e ≡ f (getD l i d)
+  getD-map f [] i d e b = absurd (not-suc-le-zero b)
+  getD-map f (x ∷ xs) zero d e b = refl
+  getD-map f (x ∷ xs) (suc i) d e b = getD-map f xs i d e (le-of-suc-le-suc b)
+
+module _ {ℓ} {A : Type ℓ} {B : Type 0} (f g : A → B) where
+  -- two maps of a list are equal where the functions agree at each entry
+  pub each-map : (l : List A) → Each (λ x. f x ≡ g x) l → map f l ≡ map g l
+  each-map [] h = refl
+  each-map (x ∷ xs) h = ap₂ _∷_ (h .0) (each-map xs (h .1))
+
+  -- and only there
+  pub map-each : (l : List A) → map f l ≡ map g l → Each (λ x. f x ≡ g x) l
+  map-each [] e = tt
+  map-each (x ∷ xs) e = (cc, map-each xs (cc))
+
+-- ---- no number twice
+
+pub occurs-false : (x : ℕ) (l : List ℕ) → occurs x l ≡ false → Each (λ y. x ≢ y) l
+unfolding occurs
+occurs-false x [] e = tt
+occurs-false x (y ∷ ys) e =
+    let n : (eqb x y ≡ false) × (occurs x ys ≡ false) = neither (eqb x y) (occurs x ys) e in
+    (eqb-false x y (n .0), occurs-false x ys (n .1))
+
+pub false-occurs : (x : ℕ) (l : List ℕ) → Each (λ y. x ≢ y) l → occurs x l ≡ false
+unfolding occurs
+false-occurs x [] h = refl
+false-occurs x (y ∷ ys) h = simp (ne-eqb x y (h .0), false-occurs x ys (h .1))
+
+pub distinct-true : (l : List ℕ) → distinct l ≡ true → Distinct l
+unfolding distinct
+distinct-true [] e = tt
+distinct-true (x ∷ xs) e =
+    let b : (not (occurs x xs) ≡ true) × (distinct xs ≡ true) = both (not (occurs x xs)) (distinct xs) e in
+    (occurs-false x xs (not-true (occurs x xs) (b .0)), distinct-true xs (b .1))
+
+pub true-distinct : (l : List ℕ) → Distinct l → distinct l ≡ true
+unfolding distinct
+true-distinct [] h = refl
+true-distinct (x ∷ xs) h = simp (false-occurs x xs (h .0), true-distinct xs (h .1))

@@ -1,0 +1,46 @@
+-- Laws of numbers: one number as a product in two ways, a rule that falls at each step, and division rounded up.
+-- Assumes nothing.
+use mathlib.Core.Path.{_≡_, sym, ap, _∙_}
+use Prim.Native.Nat.{ℕ, zero, suc, _+_, _-_, _*_, _/_, _%_, _≤_, _<_}
+use native.Mathlib.Nat.{zero-mul, mul-comm, mul-one, mul-sub, mul-le-mul-left, mul-lt-mul-of-pos-left, lt-of-mul-lt-mul-right, div-add-mod', mod-lt, mul-add-div-right, div-eq-of-lt, add-div-left, le-refl}
+use native.Mathlib.Omega.{arith}
+
+-- the smaller the one factor, the greater the other
+pub other-factor : (m p q a b : ℕ) → 0 < m → p * a ≡ m → q * b ≡ m → b < a → p < q
+other-factor m zero q a b h e f l = omega (arith, zero-mul a)
+other-factor m (suc p) q a b h e f l =
+    let less : suc p * b < suc p * a = mul-lt-mul-of-pos-left l (omega arith) in
+    let same : suc p * a ≡ q * b = e ∙ sym f in
+    lt-of-mul-lt-mul-right b (rw same at less)
+
+-- what p and q differ by, times b, is p times what a and b differ by
+pub factors-differ : (p q a b : ℕ) → p * a ≡ q * b → (q - p) * b ≡ p * (a - b)
+factors-differ p q a b e = cc (mul-comm (q - p) b, mul-sub b q p, mul-sub p a b, mul-comm b q, mul-comm b p)
+
+-- a rule that falls at each step below `many` falls over any number of steps
+pub falls-over : (f : ℕ → ℕ) (many : ℕ) → ((i : ℕ) → i + 1 < many → f (i + 1) < f i) → (i k : ℕ) → i + k < many → f (i + k) ≤ f i
+falls-over f many h i zero l =
+    let e : i + zero ≡ i = omega arith in
+    rw e (le-refl (f i))
+falls-over f many h i (suc k) l =
+    let e : i + suc k ≡ i + k + 1 = omega arith in
+    rw e (omega (arith, h (i + k) (omega arith), falls-over f many h i k (omega arith)))
+
+-- x / m rounded up, where m divides x and where it does not
+module _ (x m : ℕ) (positive : 0 < m) where
+  pub round-up-whole : x % m ≡ 0 → (x + (m - 1)) / m ≡ x / m
+  round-up-whole e =
+      let parts : x + (m - 1) ≡ x / m * m + (m - 1) = omega (arith, div-add-mod' x m) in
+      let none : (m - 1) / m ≡ 0 = div-eq-of-lt (omega arith) in
+      ap (λ (y : ℕ). y / m) parts ∙ omega (arith, mul-add-div-right positive (x / m) (m - 1))
+
+  pub round-up-part : (x % m ≡ 0 → ⊥) → (x + (m - 1)) / m ≡ x / m + 1
+  round-up-part e =
+      let parts : x + (m - 1) ≡ x / m * m + (m + (x % m - 1)) = omega (arith, div-add-mod' x m) in
+      let none : (x % m - 1) / m ≡ 0 = div-eq-of-lt (omega (arith, mod-lt x positive)) in
+      let one : (m + (x % m - 1)) / m ≡ (x % m - 1) / m + 1 = add-div-left (x % m - 1) positive in
+      ap (λ (y : ℕ). y / m) parts ∙ omega (arith, mul-add-div-right positive (x / m) (m + (x % m - 1)))
+
+  -- the quotient is smaller than x
+  pub part-below : (x % m ≡ 0 → ⊥) → x / m < x
+  part-below e = omega (arith, div-add-mod' x m, mul-one (x / m), mul-le-mul-left (x / m) positive)

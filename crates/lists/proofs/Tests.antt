@@ -1,0 +1,26 @@
+-- Tests joined by `&&`, and choices by a test.
+-- Assumes nothing.
+use mathlib.Core.Path.{_≡_, refl, sym}
+use mathlib.Core.Bool.{Bool, true, false, cond, _&&_, _||_, true≢false}
+use lib.Dec.{T}
+
+pub both-left : (a b : Bool) → T (a && b) → T a
+both-left true b t = tt
+both-left false b t = t
+
+pub both-right : (a b : Bool) → T (a && b) → T b
+both-right true b t = t
+both-right false b t = absurd t
+
+pub both : (a b : Bool) → a && b ≡ true → (a ≡ true) × (b ≡ true)
+both true b e = (refl, e)
+both false b e = absurd (true≢false (sym e))
+
+pub neither : (a b : Bool) → a || b ≡ false → (a ≡ false) × (b ≡ false)
+neither true b e = absurd (true≢false e)
+neither false b e = (refl, e)
+
+-- what holds of both cases, each under its test, holds of the choice
+pub cond-ind {ℓ ℓ′} : {A : Type ℓ} (P : A → Type ℓ′) {t : Bool} {a b : A} → (t ≡ true → P a) → (t ≡ false → P b) → P (cond t a b)
+cond-ind P {t = true} f g = f refl
+cond-ind P {t = false} f g = g refl

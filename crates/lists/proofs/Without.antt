@@ -1,0 +1,41 @@
+-- Laws of `without`: its length, its entries, and that it lacks the entry left out of a list with no number twice.
+-- Assumes nothing.
+use mathlib.Core.Path.{_≡_, refl, sym, ap}
+use mathlib.Core.Logic.{_≢_}
+use mathlib.Core.List.{List, [], _∷_}
+use Prim.Native.Nat.{ℕ, zero, suc, _<_}
+use native.Mathlib.Nat.{le-of-suc-le-suc, not-suc-le-zero}
+use lib.ListN.{length, getD}
+use Rattle.lists.specs.Each.{Each, Distinct}
+use Rattle.lists.specs.Without.{without}
+use Rattle.lists.proofs.Each.{each-getD}
+
+module _ {ℓ} {A : Type ℓ} where
+  pub length-without : (l : List A) (i : ℕ) → i < length l → suc (length (without i l)) ≡ length l
+  unfolding without
+  length-without [] i h = absurd (not-suc-le-zero h)
+  length-without (x ∷ xs) zero h = refl
+  length-without (x ∷ xs) (suc i) h = ap suc (length-without xs i (le-of-suc-le-suc h))
+
+  pub each-without : (P : A → Type 0) (l : List A) (i : ℕ) → Each P l → Each P (without i l)
+  unfolding without
+  each-without P [] i h = tt
+  each-without P (x ∷ xs) zero h = h .1
+  each-without P (x ∷ xs) (suc i) h = (h .0, each-without P xs i (h .1))
+
+  -- every entry but the one left out is still there
+  pub without-other : (P : A → Type 0) (l : List A) (i j : ℕ) (d : A) → j < length l → j ≢ i → Each P (without i l) → P (getD l j d)
+  unfolding without
+  without-other P [] i j d b n h = absurd (not-suc-le-zero b)
+  without-other P (x ∷ xs) zero zero d b n h = absurd (n refl)
+  without-other P (x ∷ xs) zero (suc j) d b n h = each-getD P xs j d (le-of-suc-le-suc b) h
+  without-other P (x ∷ xs) (suc i) zero d b n h = h .0
+  without-other P (x ∷ xs) (suc i) (suc j) d b n h = without-other P xs i j d (le-of-suc-le-suc b) (λ e. n (ap suc e)) (h .1)
+
+-- where no number stands twice, the one left out is none of the others
+pub without-distinct : (l : List ℕ) (i : ℕ) → i < length l → Distinct l → Each (λ y. getD l i 0 ≢ y) (without i l)
+unfolding without
+without-distinct [] i b h = tt
+without-distinct (x ∷ xs) zero b h = h .0
+without-distinct (x ∷ xs) (suc i) b h =
+    (λ e. each-getD (λ y. x ≢ y) xs i 0 (le-of-suc-le-suc b) (h .0) (sym e), without-distinct xs i (le-of-suc-le-suc b) (h .1))

@@ -1,0 +1,144 @@
+-- The search for the block length finds the smallest of all positive numbers that every d − z divides, since it passes none and the product
+-- of all d − z is one. What the code's search has found at its two ways out follows.
+-- Assumes nothing.
+use mathlib.Core.Path.{_≡_, refl, sym, _∙_}
+use mathlib.Core.Bool.{Bool, true, false, cond, true≢false}
+use mathlib.Core.Logic.{⊎-elim}
+use mathlib.Core.List.{List, [], _∷_}
+use Prim.Native.Nat.{ℕ, zero, suc, _+_, _-_, _*_, _%_, _≤_, _<_, _∣_, min}
+use native.Mathlib.Nat.{eq-or-lt-of-le, le-antisymm, mul-pos, dvd-mul-right, dvd-mul-left-of-dvd, dvd-of-mod-eq-zero, mod-eq-zero-of-dvd, min-eq-left, min-eq-right}
+use native.Mathlib.Numerals.{add-one}
+use native.Mathlib.Omega.{arith}
+use lib.Dec.{eqb}
+use lib.ListN.{length, drop, getD}
+use lib.Seq.{drop-cons, drop-length}
+use borrow.Author.Tests.{eq-eqb, ne-eqb, eqb-true}
+use Rattle.lists.specs.Each.{Each}
+use Rattle.lists.proofs.Each.{each-imp}
+use Rattle.lists.proofs.Tests.{both}
+use Rattle.scheme.specs.BlockLength.{divides, firstFrom, product, blockLength, Least}
+
+-- the test says what it is to say
+divides-each : (z : ℕ) (ds : List ℕ) (x : ℕ) → divides z ds x ≡ true → Each (λ d. d - z ∣ x) ds
+unfolding divides
+divides-each z [] x e = tt
+divides-each z (d ∷ ds) x e =
+    let t = both (eqb (x % (d - z)) 0) (divides z ds x) e in
+    (dvd-of-mod-eq-zero (d - z) (eqb-true (x % (d - z)) 0 (t .0)), divides-each z ds x (t .1))
+
+each-divides : (z : ℕ) (ds : List ℕ) (x : ℕ) → Each (λ d. d - z ∣ x) ds → divides z ds x ≡ true
+unfolding divides
+each-divides z [] x h = refl
+each-divides z (d ∷ ds) x h = rw (eq-eqb (x % (d - z)) 0 (mod-eq-zero-of-dvd (d - z) (h .0)), each-divides z ds x (h .1))
+
+product-divided : (z : ℕ) (ds : List ℕ) → Each (λ d. d - z ∣ product z ds) ds
+unfolding product
+product-divided z [] = tt
+product-divided z (d ∷ ds) = (
+  dvd-mul-right (d - z) (product z ds),
+  each-imp (λ e. e - z ∣ product z ds) (λ e. e - z ∣ (d - z) * product z ds)
+      (λ e h. dvd-mul-left-of-dvd (e - z) h (d - z)) ds (product-divided z ds),
+)
+
+product-positive : (z : ℕ) (ds : List ℕ) → Each (λ d. z < d) ds → 0 < product z ds
+unfolding product
+product-positive z [] h = omega arith
+product-positive z (d ∷ ds) h =
+    let l : z < d = h .0 in
+    let p : 0 < d - z = omega arith in
+    mul-pos p (product-positive z ds (h .1))
+
+-- every d − z divides none of the numbers from x up to y
+abbrev pub NoneFrom : ℕ → List ℕ → ℕ → ℕ → Type 0
+NoneFrom z ds x y = (k : ℕ) → x ≤ k → k < y → divides z ds k ≡ false
+
+-- what the search over `many` numbers from x up finds
+record Found (z : ℕ) (ds : List ℕ) (many x y : ℕ) : Type 0 where
+  low : x ≤ y
+  high : y ≤ x + many
+  here : y < x + many → divides z ds y ≡ true
+  before : NoneFrom z ds x y
+
+module _ (z : ℕ) (ds : List ℕ) where
+  later : (many x y : ℕ) → divides z ds x ≡ false → Found z ds many (x + 1) y → Found z ds (suc many) x y
+  later many x y e f =
+      record {
+        low = omega (arith, f .low);
+        high = omega (arith, f .high);
+        here = λ h. f .here (omega arith);
+        before = λ k a b. ⊎-elim (λ s. rw (← s) e) (λ s. f .before k (omega arith) b) (eq-or-lt-of-le a);
+      }
+
+  found-by : (many x y : ℕ) (t : Bool) → divides z ds x ≡ t → Found z ds many (x + 1) y → Found z ds (suc many) x (cond t x y)
+  found-by many x y true e f =
+      record { low = omega arith; high = omega arith; here = λ h. e; before = λ k a b. absurd (let no : ⊥ = omega arith in no) }
+  found-by many x y false e f = later many x y e f
+
+  found : (many x : ℕ) → Found z ds many x (firstFrom z ds many x)
+  unfolding firstFrom
+  found zero x =
+      record {
+        low = omega arith;
+        high = omega arith;
+        here = λ h. absurd (let no : ⊥ = omega arith in no);
+        before = λ k a b. absurd (let no : ⊥ = omega arith in no);
+      }
+  found (suc many) x = found-by many x _ (divides z ds x) refl (found many (x + 1))
+
+  -- a number that is divided is at or past the end of those of which none is
+  past : (m x : ℕ) → NoneFrom z ds 1 m → 0 < x → Each (λ d. d - z ∣ x) ds → m ≤ x
+  past m x none p h =
+      let no : x < m → ⊥ = λ l. true≢false (sym (each-divides z ds x h) ∙ none x p l) in
+      omega arith
+
+  pub block-least : Each (λ d. z < d) ds → Least z ds (blockLength z ds)
+  unfolding blockLength
+  block-least above =
+      let f = found (product z ds) 1 in
+      let l = past (blockLength z ds) (product z ds) (f .before) (product-positive z ds above) (product-divided z ds) in
+      record {
+        positive = f .low;
+        divided = divides-each z ds (blockLength z ds) (f .here (omega arith));
+        smallest = λ x p h. past (blockLength z ds) x (f .before) p h;
+      }
+
+pub least-unique : {z : ℕ} {ds : List ℕ} {a b : ℕ} → Least z ds a → Least z ds b → a ≡ b
+least-unique {z} {ds} {a} {b} p q = le-antisymm (p .smallest b (q .positive) (q .divided)) (q .smallest a (p .positive) (p .divided))
+
+-- the outer loop of the code's search
+module _ (z : ℕ) (ds : List ℕ) where
+  pub none-first : NoneFrom z ds 1 1
+  none-first k a b = absurd (let no : ⊥ = omega arith in no)
+
+  pub none-more : (m : ℕ) → NoneFrom z ds 1 m → divides z ds m ≡ false → NoneFrom z ds 1 (m + 1)
+  none-more m none e k a b =
+      let l : k ≤ m = omega arith in
+      ⊎-elim (λ s. rw s e) (λ s. none k a s) (eq-or-lt-of-le l)
+
+-- its inner loop: the counts from i on
+module _ (z : ℕ) (ds : List ℕ) (x i : ℕ) where
+  pub divides-end : i ≡ length ds → divides z (drop i ds) x ≡ true
+  unfolding divides
+  divides-end e = rw (e, drop-length)
+
+  pub divides-next : i < length ds → x % (getD ds i 0 - z) ≡ 0 → divides z (drop i ds) x ≡ divides z (drop (i + 1) ds) x
+  unfolding divides
+  divides-next h e = rw (add-one, drop-cons ds i 0 h, eq-eqb _ _ e)
+
+  pub divides-not : i < length ds → (x % (getD ds i 0 - z) ≡ 0 → ⊥) → divides z (drop i ds) x ≡ false
+  unfolding divides
+  divides-not h e = rw (drop-cons ds i 0 h, ne-eqb _ _ e)
+
+-- its two ways out, with the limit l: at the limit, and at a number that is divided
+module _ (z : ℕ) (ds : List ℕ) (above : Each (λ d. z < d) ds) (l m : ℕ) (none : NoneFrom z ds 1 m) where
+  pub search-past : m ≡ l + 1 → m ≡ min (blockLength z ds) (l + 1)
+  search-past e =
+      let b = block-least z ds above in
+      let h = past z ds m (blockLength z ds) none (b .positive) (b .divided) in
+      e ∙ sym (min-eq-right (rw e at h))
+
+  pub search-here : 0 < m → m ≤ l → divides z ds m ≡ true → m ≡ min (blockLength z ds) (l + 1)
+  search-here p h e =
+      let b = block-least z ds above in
+      let m-least : Least z ds m = record { positive = p; divided = divides-each z ds m e; smallest = λ x. past z ds m x none } in
+      least-unique m-least b ∙ sym (min-eq-left (rw (least-unique b m-least) (omega arith)))

@@ -1,0 +1,6 @@
+-- The laws of the scheme's check for whoever cites them.
+-- Assumes nothing.
+pub use Rattle.scheme.proofs.BlockLength.{block-least, least-unique}
+pub use Rattle.scheme.proofs.Refusals.{sizes, refused-number}
+pub use Rattle.scheme.proofs.Accepted.{refused-four, accepted, accepted-scheme}
+pub use Rattle.scheme.proofs.Examples.{default-accepted}

@@ -1,0 +1,6 @@
+pub mod Limits
+pub mod Outcome
+pub mod BlockLength
+pub mod Check
+pub mod Facts
+pub mod Sheet
