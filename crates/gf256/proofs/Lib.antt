@@ -2,5 +2,6 @@ mod Digits
 mod Ring
 mod Inverses
 mod Powers
+mod Shifting
 pub mod Laws
 pub mod Examples

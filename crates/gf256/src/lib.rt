@@ -5,6 +5,7 @@ ghost use Prim.Native.Nat.{_<_};
 ghost use Rattle.gf256.specs.Byte as byte;
 ghost use Rattle.gf256.specs.Byte.{_⊕_, _⊗_, power};
 
+pub mod lanes;
 mod tables;
 
 // The sum of two bytes, and their difference.

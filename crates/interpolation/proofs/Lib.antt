@@ -1,5 +1,10 @@
 mod Polynomial
 mod Unique
 mod Through
-mod Basis
+mod Lagrange
+mod Weights
+mod Table
+mod Row
+mod Rows
+pub mod RowValues
 pub mod Laws

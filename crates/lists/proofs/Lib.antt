@@ -3,5 +3,8 @@ pub mod Numbers
 pub mod Computed
 pub mod Table
 pub mod Each
+pub mod Search
 pub mod Without
+pub mod WithoutFrom
 pub mod Fill
+pub mod Arrays

@@ -5,9 +5,9 @@ use Rattle.gf256.specs.Byte.{_⊕_}
 use Rattle.gf256.proofs.add.Statement.{statement}
 use Rattle.gf256.proofs.add.Tie as tie
 
-returns : tie.Need-returns
-unfolding _⊕_
-returns c = refl
-
 pub add-spec : {M : Type 1} → statement M
-add-spec = tie.close (tie.spec returns)
+unfolding _⊕_
+add-spec =
+    tie.close
+    (tie.spec
+    (λ c. refl))

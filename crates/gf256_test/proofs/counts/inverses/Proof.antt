@@ -1,0 +1,28 @@
+-- `gf256_test::counts::inverses` is safe and ends. The invariant: no more are counted than bytes were taken. The measure is what is left of the bytes.
+-- Assumes nothing.
+use mathlib.Core.Logic.{⊎-elim}
+use Prim.Native.Nat.{_≤_, _-_}
+use native.Mathlib.Omega.{arith}
+use borrow.Author.Needs.{needs}
+use Rattle.gf256_test.proofs.counts.inverses.Statement.{statement}
+use Rattle.gf256_test.proofs.counts.inverses.Tie as tie
+
+abbrev Inv-loop : tie.InvT-loop
+Inv-loop count₀ a₀ count a = count ≤ a
+
+abbrev μ-loop : tie.MeasureT-loop
+μ-loop count₀ a₀ count a = 256 - a
+
+pub inverses-spec : {M : Type 1} → statement M
+inverses-spec =
+    tie.close
+    (tie.spec Inv-loop μ-loop
+    (λ c. search needs)
+    (λ c. search needs)
+    (λ c κs. search needs)
+    (λ c κs. search needs)
+    (λ c. search needs)
+    (λ c. search needs)
+    (λ c. search needs)
+    (λ c. ⊎-elim (λ w. omega arith) (λ w. omega arith) (c .if1 .came))
+    (λ c. search needs))
