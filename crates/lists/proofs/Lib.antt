@@ -1,6 +1,7 @@
 pub mod Tests
 pub mod Numbers
 pub mod Computed
+pub mod Parts
 pub mod Table
 pub mod Each
 pub mod Search

@@ -1,8 +1,11 @@
--- Tests joined by `&&`, and choices by a test.
+-- Tests joined by `&&`, choices by a test, and the two cases of an order.
 -- Assumes nothing.
 use mathlib.Core.Path.{_≡_, refl, sym}
 use mathlib.Core.Bool.{Bool, true, false, cond, _&&_, _||_, true≢false}
-use lib.Dec.{T}
+use mathlib.Core.Logic.{_⊎_, inl, inr}
+use Prim.Native.Nat.{ℕ, _<_, _≤_}
+use lib.Dec.{T, ltb}
+use borrow.Author.Tests.{ltb-true, ltb-false}
 
 pub both-left : (a b : Bool) → T (a && b) → T a
 both-left true b t = tt
@@ -24,3 +27,10 @@ neither false b e = (refl, e)
 pub cond-ind {ℓ ℓ′} : {A : Type ℓ} (P : A → Type ℓ′) {t : Bool} {a b : A} → (t ≡ true → P a) → (t ≡ false → P b) → P (cond t a b)
 cond-ind P {t = true} f g = f refl
 cond-ind P {t = false} f g = g refl
+
+lt-or-le-by : (a b : ℕ) (t : Bool) → ltb a b ≡ t → (a < b) ⊎ (b ≤ a)
+lt-or-le-by a b true e = inl (ltb-true a b e)
+lt-or-le-by a b false e = inr (ltb-false a b e)
+
+pub lt-or-le : (a b : ℕ) → (a < b) ⊎ (b ≤ a)
+lt-or-le a b = lt-or-le-by a b (ltb a b) refl

@@ -1,6 +1,8 @@
--- The laws of the scheme's check for whoever cites them.
+-- The laws of the scheme's check and of its sheet for whoever cites them.
 -- Assumes nothing.
 pub use Rattle.scheme.proofs.BlockLength.{block-least, least-unique}
 pub use Rattle.scheme.proofs.Refusals.{sizes, refused-number}
 pub use Rattle.scheme.proofs.Accepted.{refused-four, accepted, accepted-scheme}
 pub use Rattle.scheme.proofs.Examples.{default-accepted}
+pub use Rattle.scheme.proofs.Written.{printed}
+pub use Rattle.scheme.proofs.SheetText.{sheet-text-short}

@@ -4,3 +4,4 @@ pub mod BlockLength
 pub mod Check
 pub mod Facts
 pub mod Sheet
+pub mod Writing

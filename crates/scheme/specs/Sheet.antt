@@ -36,11 +36,14 @@ wordRows = 114 ∷ 111 ∷ 119 ∷ 115 ∷ []
 abbrev pub wordRefused : List ℕ
 wordRefused = 114 ∷ 101 ∷ 102 ∷ 117 ∷ 115 ∷ 101 ∷ 100 ∷ []
 
--- one line a count, in the list's order: d, its P, and the bytes read for a block, d × P
+-- a count's line: d, its P, and the bytes read for a block, d × P
+unfoldable pub countLine : ℕ → ℕ → ℕ → List ℕ
+countLine m z d = line (decimal d ∷ decimal (rowsOfCount m z d) ∷ decimal (d * rowsOfCount m z d) ∷ [])
+
+-- one line a count, in the list's order
 unfoldable pub countLines : ℕ → ℕ → List ℕ → List ℕ
 countLines m z [] = []
-countLines m z (d ∷ ds) =
-    line (decimal d ∷ decimal (rowsOfCount m z d) ∷ decimal (d * rowsOfCount m z d) ∷ []) ++ countLines m z ds
+countLines m z (d ∷ ds) = countLine m z d ++ countLines m z ds
 
 -- the text for a scheme
 unfoldable pub schemeText : ℕ → ℕ → ℕ → List ℕ → List ℕ

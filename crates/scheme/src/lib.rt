@@ -8,7 +8,13 @@ ghost use Rattle.scheme.specs.Outcome.{outcome};
 ghost use Rattle.scheme.specs.BlockLength.{blockLength};
 ghost use Rattle.scheme.specs.Check.{checked, countsRefused, rowsOfCount, blockCount};
 
-mod limits;
+pub mod limits;
+mod printing;
+mod writer;
+
+pub use printing::MAX_INPUT;
+pub use printing::sheet;
+pub use writer::Text;
 
 // An accepted scheme: its parameters, the block length m and the rows b of a block.
 pub struct Scheme {

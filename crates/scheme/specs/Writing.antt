@@ -1,0 +1,32 @@
+-- What a text of the code holds.
+-- Assumes nothing.
+use mathlib.Core.Path.{_≡_}
+use mathlib.Core.List.{List, [], _∷_, _++_}
+use Prim.Native.Nat.{ℕ, zero, suc, _≤_, min}
+use lib.ListN.{length}
+use Rattle.scheme.specs.declared.writer.Text.{Text}
+
+-- the bytes that a text has room for
+abbrev pub maxText : ℕ
+maxText = 256
+
+-- a text in so many bytes: as many of its own as there is room for, and zeros after it
+unfoldable pub padded : ℕ → List ℕ → List ℕ
+padded zero text = []
+padded (suc room) [] = 0 ∷ padded room []
+padded (suc room) (x ∷ text) = x ∷ padded room text
+
+-- t holds all of a text
+pub record Whole (t : Text) (text : List ℕ) : Type 0 where
+  pub within : t .length ≤ length (t .bytes)
+  pub long : t .length ≡ length text
+  pub bytes : t .bytes ≡ padded maxText text
+
+-- t holds a text, or as much of it as there is room for
+pub record Holds (t : Text) (text : List ℕ) : Type 0 where
+  pub long : t .length ≡ min (length text) maxText
+  pub bytes : t .bytes ≡ padded maxText text
+
+-- whatever text the one holds, the other holds that text with these bytes after it
+pub record Adds (from to : Text) (more : List ℕ) : Type 0 where
+  pub holds : (text : List ℕ) → Holds from text → Holds to (text ++ more)
