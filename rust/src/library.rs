@@ -9,12 +9,33 @@ mod boundary {
         pub rows: u64,
     }
 
+    #[repr(C)]
+    pub struct SharingAnswer {
+        pub refusal: u64,
+        pub value: u64,
+    }
+
+    #[rustfmt::skip]
     extern "C" {
         pub fn gf256_mul(a: u8, b: u8) -> u8;
         pub fn gf256_mul_by_shifting(a: u8, b: u8) -> u8;
         pub fn gf256_inverse(a: u8) -> u8;
         pub fn sharing_check(n: u8, r: u8, z: u8, counts: *const u8, length: usize) -> SharingScheme;
         pub fn sharing_check_default() -> SharingScheme;
+        pub fn sharing_split(
+            n: u8, r: u8, z: u8, counts: *const u8, counts_length: usize,
+            message: *const u8, message_length: usize, keys: *const u8, keys_length: usize,
+            out: *mut u8, out_length: usize,
+        ) -> SharingAnswer;
+        pub fn sharing_split_default(
+            message: *const u8, message_length: usize, keys: *const u8, keys_length: usize,
+            out: *mut u8, out_length: usize,
+        ) -> SharingAnswer;
+        pub fn sharing_prefix(
+            n: u8, r: u8, z: u8, counts: *const u8, counts_length: usize,
+            message_length: usize, d: usize, share: *const u8, share_length: usize,
+        ) -> SharingAnswer;
+        pub fn sharing_prefix_default(message_length: usize, d: usize, share: *const u8, share_length: usize) -> SharingAnswer;
     }
 }
 
@@ -26,6 +47,18 @@ fn checked(answer: boundary::SharingScheme) -> Checked {
         Ok((answer.block, answer.rows))
     } else {
         assert_eq!((answer.block, answer.rows), (0, 0), "a refusal comes alone");
+        Err(answer.refusal)
+    }
+}
+
+/// The value that a call answers, or the number of its refusal.
+pub type Answer = Result<u64, u64>;
+
+fn answer(answer: boundary::SharingAnswer) -> Answer {
+    if answer.refusal == 0 {
+        Ok(answer.value)
+    } else {
+        assert_eq!(answer.value, 0, "a refusal comes alone");
         Err(answer.refusal)
     }
 }
@@ -48,4 +81,45 @@ pub fn check(n: u8, r: u8, z: u8, counts: &[u8]) -> Checked {
 
 pub fn check_default() -> Checked {
     checked(unsafe { boundary::sharing_check_default() })
+}
+
+pub fn split(n: u8, r: u8, z: u8, counts: &[u8], message: &[u8], keys: &[u8], out: &mut [u8]) -> Answer {
+    answer(unsafe {
+        boundary::sharing_split(
+            n,
+            r,
+            z,
+            counts.as_ptr(),
+            counts.len(),
+            message.as_ptr(),
+            message.len(),
+            keys.as_ptr(),
+            keys.len(),
+            out.as_mut_ptr(),
+            out.len(),
+        )
+    })
+}
+
+pub fn split_default(message: &[u8], keys: &[u8], out: &mut [u8]) -> Answer {
+    answer(unsafe {
+        boundary::sharing_split_default(
+            message.as_ptr(),
+            message.len(),
+            keys.as_ptr(),
+            keys.len(),
+            out.as_mut_ptr(),
+            out.len(),
+        )
+    })
+}
+
+pub fn prefix(n: u8, r: u8, z: u8, counts: &[u8], length: usize, d: usize, share: &[u8]) -> Answer {
+    answer(unsafe {
+        boundary::sharing_prefix(n, r, z, counts.as_ptr(), counts.len(), length, d, share.as_ptr(), share.len())
+    })
+}
+
+pub fn prefix_default(length: usize, d: usize, share: &[u8]) -> Answer {
+    answer(unsafe { boundary::sharing_prefix_default(length, d, share.as_ptr(), share.len()) })
 }

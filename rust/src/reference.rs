@@ -57,3 +57,199 @@ pub fn check(n: u8, r: u8, z: u8, counts: &[u8]) -> Result<(u64, u64), u64> {
     }
     Ok((m, m / (n - r - z) as u64))
 }
+
+/// Refusals, in the order in which the places are visited: the first that applies is the answer.
+fn first_refusal(refusals: &[(bool, u64)]) -> Result<(), u64> {
+    match refusals.iter().find(|(applies, _)| *applies) {
+        Some(&(_, number)) => Err(number),
+        None => Ok(()),
+    }
+}
+
+/// The rows of a block, each the list of its coefficients, by the literal lists of the rules: group 1
+/// holds the block's bytes in order, and each later group what the rows before it lose.
+fn rows(z: usize, counts: &[u8], block: &[u8], keys: &[u8]) -> Vec<Vec<u8>> {
+    let m = block.len();
+    let mut rows: Vec<Vec<u8>> = Vec::new();
+    let mut above = 0;
+    for (group, &d) in counts.iter().enumerate() {
+        let d = d as usize;
+        let list: Vec<u8> = if group == 0 {
+            block.to_vec()
+        } else {
+            rows.iter().flat_map(|row| row[d..above].to_vec()).collect()
+        };
+        for rest in list.chunks(d - z) {
+            let first_key = rows.len() * z;
+            let mut row = keys[first_key..first_key + z].to_vec();
+            row.extend(rest);
+            rows.push(row);
+        }
+        assert_eq!(rows.len(), m / (d - z));
+        above = d;
+    }
+    rows
+}
+
+/// The value of a polynomial, as a sum of powers.
+fn value(row: &[u8], x: u8) -> u8 {
+    let mut power = 1;
+    let mut sum = 0;
+    for &coefficient in row {
+        sum ^= mul(coefficient, power);
+        power = mul(power, x);
+    }
+    sum
+}
+
+/// The number of blocks of a message, and the rows of a block.
+fn sizes(n: u8, r: u8, z: u8, counts: &[u8], length: usize) -> (usize, usize, usize) {
+    let (m, b) = check(n, r, z, counts).expect("an accepted scheme");
+    let (m, b) = (m as usize, b as usize);
+    (length.div_ceil(m), m, b)
+}
+
+/// The shares of all parties, one after another.
+pub fn split(n: u8, r: u8, z: u8, counts: &[u8], message: &[u8], keys: &[u8], out: usize) -> Result<Vec<u8>, u64> {
+    check(n, r, z, counts)?;
+    first_refusal(&[(message.len() > 16384, 5)])?;
+    let (blocks, m, b) = sizes(n, r, z, counts, message.len());
+    let z = z as usize;
+    first_refusal(&[(keys.len() != blocks * z * b, 8), (out != n as usize * blocks * b, 10)])?;
+    let mut padded = message.to_vec();
+    padded.resize(blocks * m, 0);
+    let mut shares = vec![0; n as usize * blocks * b];
+    for t in 0..blocks {
+        let rows = rows(z, counts, &padded[t * m..(t + 1) * m], &keys[t * z * b..(t + 1) * z * b]);
+        for (j, row) in rows.iter().enumerate() {
+            for s in 1..=n {
+                shares[(s as usize - 1) * blocks * b + j * blocks + t] = value(row, s);
+            }
+        }
+    }
+    Ok(shares)
+}
+
+/// The length of a prefix.
+pub fn prefix(n: u8, r: u8, z: u8, counts: &[u8], length: usize, d: usize, share: usize) -> Result<u64, u64> {
+    check(n, r, z, counts)?;
+    first_refusal(&[(length > 16384, 5), (!counts.iter().any(|&count| count as usize == d), 6)])?;
+    let (blocks, m, b) = sizes(n, r, z, counts, length);
+    first_refusal(&[(share != blocks * b, 9)])?;
+    Ok((m / (d - z as usize) * blocks) as u64)
+}
+
+/// Solves a system of linear equations over the bytes by elimination: `matrix` has one row an
+/// equation, with its right side last. There is exactly one solution.
+fn solve(mut matrix: Vec<Vec<u8>>) -> Vec<u8> {
+    let size = matrix.len();
+    for column in 0..size {
+        let pivot = (column..size).find(|&row| matrix[row][column] != 0).expect("a unique solution");
+        matrix.swap(column, pivot);
+        let factor = inverse(matrix[column][column]);
+        for entry in &mut matrix[column] {
+            *entry = mul(*entry, factor);
+        }
+        let pivot_row = matrix[column].clone();
+        for (row, entries) in matrix.iter_mut().enumerate() {
+            let factor = entries[column];
+            if row != column && factor != 0 {
+                for (entry, &pivot) in entries.iter_mut().zip(&pivot_row) {
+                    *entry ^= mul(factor, pivot);
+                }
+            }
+        }
+    }
+    matrix.iter().map(|row| row[size]).collect()
+}
+
+fn powers(x: u8, count: usize) -> Vec<u8> {
+    let mut powers = vec![1];
+    for _ in 1..count {
+        powers.push(mul(x, *powers.last().expect("not empty")));
+    }
+    powers
+}
+
+fn check_parties(n: u8, parties: &[u8]) -> bool {
+    parties.windows(2).all(|pair| pair[0] < pair[1]) && parties.iter().all(|&s| (1..=n).contains(&s))
+}
+
+/// The weights: row i, column e.
+pub fn basis(n: u8, r: u8, z: u8, counts: &[u8], parties: &[u8]) -> Result<Vec<Vec<u8>>, u64> {
+    check(n, r, z, counts)?;
+    let d = parties.len();
+    first_refusal(&[(!counts.iter().any(|&count| count as usize == d), 6), (!check_parties(n, parties), 7)])?;
+    let row = |i: usize| {
+        solve(
+            parties
+                .iter()
+                .enumerate()
+                .map(|(k, &s)| {
+                    let mut equation = powers(s, d);
+                    equation.push((k == i) as u8);
+                    equation
+                })
+                .collect(),
+        )
+    };
+    Ok((0..d).map(row).collect())
+}
+
+/// Opens a message: in each block the unknowns are the block's bytes and the keys of the rows that
+/// the parties send, and each byte of a prefix is one equation.
+pub fn reconstruct(
+    n: u8,
+    r: u8,
+    z: u8,
+    counts: &[u8],
+    length: usize,
+    parties: &[u8],
+    prefixes: &[u8],
+    out: usize,
+) -> Result<(u64, Vec<u8>), u64> {
+    check(n, r, z, counts)?;
+    let d = parties.len();
+    first_refusal(&[
+        (length > 16384, 5),
+        (!counts.iter().any(|&count| count as usize == d), 6),
+        (!check_parties(n, parties), 7),
+    ])?;
+    let (blocks, m, b) = sizes(n, r, z, counts, length);
+    let z = z as usize;
+    let sent = m / (d - z);
+    first_refusal(&[(prefixes.len() != d * sent * blocks, 9), (out != length, 10)])?;
+    // The row of a unit message or key: what each unknown adds to each row.
+    let unknowns = m + sent * z;
+    let mut coefficients = vec![vec![vec![0; unknowns]; 0]; b];
+    for unknown in 0..unknowns {
+        let (mut block, mut keys) = (vec![0; m], vec![0; b * z]);
+        if unknown < m {
+            block[unknown] = 1;
+        } else {
+            keys[unknown - m] = 1;
+        }
+        for (j, row) in rows(z, counts, &block, &keys).into_iter().enumerate() {
+            coefficients[j].resize(row.len(), vec![0; unknowns]);
+            for (e, coefficient) in row.into_iter().enumerate() {
+                coefficients[j][e][unknown] = coefficient;
+            }
+        }
+    }
+    let mut message = Vec::new();
+    for t in 0..blocks {
+        let mut equations = Vec::new();
+        for (a, &s) in parties.iter().enumerate() {
+            for (j, row) in coefficients.iter().enumerate().take(sent) {
+                let powers = powers(s, row.len());
+                let mut equation: Vec<u8> =
+                    (0..unknowns).map(|u| row.iter().zip(&powers).fold(0, |sum, (c, &p)| sum ^ mul(c[u], p))).collect();
+                equation.push(prefixes[a * sent * blocks + j * blocks + t]);
+                equations.push(equation);
+            }
+        }
+        message.extend(&solve(equations)[..m]);
+    }
+    message.truncate(length);
+    Ok(((d * sent * blocks) as u64, message))
+}

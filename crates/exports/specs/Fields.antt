@@ -5,6 +5,7 @@ use Prim.Native.Nat.{ℕ}
 use lib.ListN.{getD}
 use Rattle.scheme.specs.Outcome.{Outcome}
 use Rattle.exports.specs.declared.SharingScheme.{SharingScheme}
+use Rattle.exports.specs.declared.SharingAnswer.{SharingAnswer}
 
 abbrev pub schemeFields : SharingScheme → List ℕ
 schemeFields s = s .refusal ∷ s .block ∷ s .rows ∷ []
@@ -12,3 +13,10 @@ schemeFields s = s .refusal ∷ s .block ∷ s .rows ∷ []
 -- of the check's values n, r, z, m, b the last two are handed over
 abbrev pub checkedFields : Outcome → List ℕ
 checkedFields o = o .number ∷ getD (o .values) 3 0 ∷ getD (o .values) 4 0 ∷ []
+
+-- of a call that answers one value
+abbrev pub answerFields : SharingAnswer → List ℕ
+answerFields a = a .refusal ∷ a .value ∷ []
+
+abbrev pub valueFields : Outcome → List ℕ
+valueFields o = o .number ∷ getD (o .values) 0 0 ∷ []

@@ -5,14 +5,27 @@ ghost use Rattle.gf256.specs.Byte.{_⊗_, inverse};
 ghost use Rattle.scheme.specs.Limits.{defaultN, defaultR, defaultZ, defaultCounts};
 ghost use Rattle.scheme.specs.Outcome.{outcome};
 ghost use Rattle.scheme.specs.Check.{checked};
-ghost use Rattle.exports.specs.Fields.{schemeFields, checkedFields};
+ghost use lib.ListN.{length};
+ghost use Rattle.staircase.specs.Parameters.{parameters};
+ghost use Rattle.sharing.specs.Answers.{splitOutcome, prefixOutcome};
+ghost use Rattle.sharing.specs.Split.{splitAnswer, splitOutput};
+ghost use Rattle.sharing.specs.Prefix.{prefixAnswer};
+ghost use Rattle.exports.specs.Fields.{schemeFields, checkedFields, answerFields, valueFields};
 use scheme::SchemeAnswer;
+use sharing::PrefixAnswer;
+use sharing::SplitAnswer;
 
 #[repr(C)]
 pub struct SharingScheme {
     pub refusal: u64,
     pub block: u64,
     pub rows: u64,
+}
+
+#[repr(C)]
+pub struct SharingAnswer {
+    pub refusal: u64,
+    pub value: u64,
 }
 
 #[no_mangle]
@@ -63,6 +76,89 @@ fn scheme_fields(answer: SchemeAnswer) -> SharingScheme
             refusal: number as u64,
             block: 0,
             rows: 0,
+        },
+    }
+}
+
+#[no_mangle]
+pub extern "C" fn sharing_split(
+    n: u8,
+    r: u8,
+    z: u8,
+    counts: &[u8],
+    message: &[u8],
+    keys: &[u8],
+    out: &mut [u8],
+) -> SharingAnswer
+    ensures { λ a. ⌜ (answerFields a ≡ valueFields (splitAnswer (parameters n r z (now (counts .entry))) (length (now (message .entry))) (length (now (keys .entry))) (length (now (out .entry))))) × (now (out .exit) ≡ splitOutput (parameters n r z (now (counts .entry))) (now (message .entry)) (now (keys .entry)) (now (out .entry))) ⌝ }
+{
+    split_fields(sharing::split(n, r, z, counts, message, keys, out))
+}
+
+#[no_mangle]
+pub extern "C" fn sharing_split_default(
+    message: &[u8],
+    keys: &[u8],
+    out: &mut [u8],
+) -> SharingAnswer
+    ensures { λ a. ⌜ (answerFields a ≡ valueFields (splitAnswer (parameters defaultN defaultR defaultZ defaultCounts) (length (now (message .entry))) (length (now (keys .entry))) (length (now (out .entry))))) × (now (out .exit) ≡ splitOutput (parameters defaultN defaultR defaultZ defaultCounts) (now (message .entry)) (now (keys .entry)) (now (out .entry))) ⌝ }
+{
+    split_fields(sharing::split_default(message, keys, out))
+}
+
+// The prefix is the first `value` bytes of the share.
+#[no_mangle]
+pub extern "C" fn sharing_prefix(
+    n: u8,
+    r: u8,
+    z: u8,
+    counts: &[u8],
+    message_length: usize,
+    d: usize,
+    share: &[u8],
+) -> SharingAnswer
+    ensures { λ a. ⌜ answerFields a ≡ valueFields (prefixAnswer (parameters n r z (now (counts .entry))) «message_length» d (length (now (share .entry)))) ⌝ }
+{
+    prefix_fields(sharing::prefix_length(n, r, z, counts, message_length, d, share))
+}
+
+#[no_mangle]
+pub extern "C" fn sharing_prefix_default(
+    message_length: usize,
+    d: usize,
+    share: &[u8],
+) -> SharingAnswer
+    ensures { λ a. ⌜ answerFields a ≡ valueFields (prefixAnswer (parameters defaultN defaultR defaultZ defaultCounts) «message_length» d (length (now (share .entry)))) ⌝ }
+{
+    prefix_fields(sharing::prefix_length_default(message_length, d, share))
+}
+
+fn split_fields(answer: SplitAnswer) -> SharingAnswer
+    ensures { λ a. ⌜ answerFields a ≡ valueFields (splitOutcome answer) ⌝ }
+{
+    match answer {
+        SplitAnswer::Written(bytes) => SharingAnswer {
+            refusal: 0,
+            value: bytes as u64,
+        },
+        SplitAnswer::Refused(number) => SharingAnswer {
+            refusal: number as u64,
+            value: 0,
+        },
+    }
+}
+
+fn prefix_fields(answer: PrefixAnswer) -> SharingAnswer
+    ensures { λ a. ⌜ answerFields a ≡ valueFields (prefixOutcome answer) ⌝ }
+{
+    match answer {
+        PrefixAnswer::Length(bytes) => SharingAnswer {
+            refusal: 0,
+            value: bytes as u64,
+        },
+        PrefixAnswer::Refused(number) => SharingAnswer {
+            refusal: number as u64,
+            value: 0,
         },
     }
 }

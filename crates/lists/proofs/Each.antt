@@ -7,10 +7,10 @@ use mathlib.Core.List.{List, [], _∷_, _++_, map}
 use Prim.Native.Nat.{ℕ, zero, suc, _<_, suc-le-suc}
 use native.Mathlib.Nat.{le-of-suc-le-suc, not-suc-le-zero, le-refl, le-step, zero-lt-suc}
 use lib.Dec.{eqb}
-use lib.ListN.{length, getD, replicate}
+use lib.ListN.{length, getD, set, take, drop, replicate}
 use borrow.Author.Tests.{eqb-false, ne-eqb, not-true}
 use Rattle.lists.specs.Each.{Each, Distinct, occurs, distinct}
-use Rattle.lists.specs.Table.{tabulate}
+use Rattle.lists.specs.Table.{tabulate, joined}
 use Rattle.lists.proofs.Tests.{both, neither}
 
 module _ {ℓ} {A : Type ℓ} (P : A → Type 0) where
@@ -18,6 +18,17 @@ module _ {ℓ} {A : Type ℓ} (P : A → Type 0) where
   each-getD [] i d b h = absurd (not-suc-le-zero b)
   each-getD (x ∷ xs) zero d b h = h .0
   each-getD (x ∷ xs) (suc i) d b h = each-getD xs i d (le-of-suc-le-suc b) (h .1)
+
+  -- at every place, where it holds beyond the end too
+  pub each-at : (l : List A) (i : ℕ) (d : A) → P d → Each P l → P (getD l i d)
+  each-at [] i d b h = b
+  each-at (x ∷ xs) zero d b h = h .0
+  each-at (x ∷ xs) (suc i) d b h = each-at xs i d b (h .1)
+
+  pub each-set : (l : List A) (i : ℕ) (x : A) → P x → Each P l → Each P (set l i x)
+  each-set [] i x b h = h
+  each-set (y ∷ l) zero x b h = (b, h .1)
+  each-set (y ∷ l) (suc i) x b h = (h .0, each-set l i x b (h .1))
 
   -- the other way: what holds at every place holds of each entry
   pub each-of : (l : List A) (d : A) → ((i : ℕ) → i < length l → P (getD l i d)) → Each P l
@@ -31,6 +42,21 @@ module _ {ℓ} {A : Type ℓ} (P : A → Type 0) where
   pub each-append : (l m : List A) → Each P l → Each P m → Each P (l ++ m)
   each-append [] m h k = k
   each-append (x ∷ xs) m h k = (h .0, each-append xs m (h .1) k)
+
+  pub each-take : (n : ℕ) (l : List A) → Each P l → Each P (take n l)
+  each-take zero l h = tt
+  each-take (suc n) [] h = tt
+  each-take (suc n) (x ∷ xs) h = (h .0, each-take n xs (h .1))
+
+  pub each-drop : (n : ℕ) (l : List A) → Each P l → Each P (drop n l)
+  each-drop zero l h = h
+  each-drop (suc n) [] h = tt
+  each-drop (suc n) (x ∷ xs) h = each-drop n xs (h .1)
+
+  pub each-joined : (n : ℕ) (f : ℕ → List A) → ((i : ℕ) → i < n → Each P (f i)) → Each P (joined n f)
+  unfolding joined
+  each-joined zero f h = tt
+  each-joined (suc n) f h = each-append (joined n f) (f n) (each-joined n f (λ i b. h i (le-step b))) (h n (le-refl (suc n)))
 
   pub each-replicate : (n : ℕ) (x : A) → P x → Each P (replicate n x)
   each-replicate zero x h = tt
@@ -54,6 +80,10 @@ module _ {ℓ ℓ′} {A : Type ℓ} {B : Type ℓ′} where
   getD-map f [] i d e b = absurd (not-suc-le-zero b)
   getD-map f (x ∷ xs) zero d e b = refl
   getD-map f (x ∷ xs) (suc i) d e b = getD-map f xs i d e (le-of-suc-le-suc b)
+
+  pub each-mapped : (P : B → Type 0) (f : A → B) (l : List A) → Each (λ x. P (f x)) l → Each P (map f l)
+  each-mapped P f [] h = tt
+  each-mapped P f (x ∷ xs) h = (h .0, each-mapped P f xs (h .1))
 
 module _ {ℓ} {A : Type ℓ} {B : Type 0} (f g : A → B) where
   -- two maps of a list are equal where the functions agree at each entry

@@ -1,11 +1,15 @@
 pub mod Tests
 pub mod Numbers
+pub mod Choice
 pub mod Computed
-pub mod Parts
 pub mod Table
+pub mod Parts
 pub mod Each
 pub mod Search
 pub mod Without
 pub mod WithoutFrom
 pub mod Fill
 pub mod Arrays
+pub mod Joined
+pub mod Piece
+pub mod Columns

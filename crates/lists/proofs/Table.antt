@@ -1,7 +1,7 @@
 -- Laws of `tabulate`: its length, its entries, equality by entries.
 -- Assumes nothing.
-use mathlib.Core.Path.{_≡_, refl, sym, _∙_}
-use mathlib.Core.List.{List, [], _∷_, _++_}
+use mathlib.Core.Path.{_≡_, refl, sym, ap, _∙_}
+use mathlib.Core.List.{List, [], _∷_, _++_, map, map-append}
 use mathlib.Core.Logic.{⊎-elim}
 use Prim.Native.Nat.{ℕ, zero, suc, _<_}
 use native.Mathlib.Nat.{le-refl, le-step, eq-or-lt-of-le, le-of-suc-le-suc, not-suc-le-zero}
@@ -34,3 +34,8 @@ module _ {ℓ} {A : Type ℓ} where
   pub tabulate-is : (l : List A) (n : ℕ) (f : ℕ → A) (d : A) → length l ≡ n → ((i : ℕ) → i < n → getD l i d ≡ f i) → l ≡ tabulate n f
   tabulate-is l n f d e h =
       ext-getD d l _ (e ∙ sym (length-tabulate n f)) (λ i b. h i (rw e at b) ∙ sym (getD-tabulate n f i d (rw e at b)))
+
+pub map-tabulate {ℓ ℓ′} : {A : Type ℓ} {B : Type ℓ′} (f : A → B) (n : ℕ) (g : ℕ → A) → map f (tabulate n g) ≡ tabulate n (λ i. f (g i))
+unfolding tabulate
+map-tabulate f zero g = refl
+map-tabulate f (suc n) g = map-append f (tabulate n g) (g n ∷ []) ∙ ap (λ r. r ++ (f (g n) ∷ [])) (map-tabulate f n g)

@@ -1,0 +1,5 @@
+pub mod Sum
+pub mod Message
+pub mod Shares
+pub mod Mask
+pub mod Exactness

@@ -1,0 +1,4 @@
+pub mod Message
+pub mod Family
+pub mod Secrecy
+pub mod Exactness

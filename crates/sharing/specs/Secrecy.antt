@@ -1,0 +1,75 @@
+-- Demand 3 of the request, as statements about the splitter's own answer and output.
+-- Assumes nothing.
+use mathlib.Core.Path.{_≡_}
+use mathlib.Core.Bool.{cond}
+use mathlib.Core.List.{List}
+use Prim.Native.Nat.{ℕ, _*_, _≤_}
+use lib.Dec.{eqb}
+use lib.ListN.{length}
+use Rattle.lists.specs.Each.{Each, Distinct, Byte}
+use Rattle.scheme.specs.Limits.{maxMessage, defaultN, defaultR, defaultZ, defaultCounts}
+use Rattle.scheme.specs.Check.{blockCount}
+use Rattle.family.specs.Message.{Bytes}
+use Rattle.staircase.specs.Parameters.{Parameters, Accepted, Party, parameters, block, rows}
+use Rattle.staircase.specs.Shares.{partOf}
+use Rattle.sharing.specs.declared.SplitAnswer.{SplitAnswer}
+use Rattle.sharing.specs.Answers.{splitOutcome}
+use Rattle.sharing.specs.Split.{splitRefusal, splitAnswer, splitOutput}
+
+-- a key string for a message of so many bytes: any N × z × b bytes
+abbrev pub KeyString : Parameters → ℕ → List ℕ → Type 0
+KeyString p message keys = Bytes (blockCount (block p) message * p .z * rows p) keys
+
+-- the output's length that the splitter wants for a message of so many bytes
+abbrev pub wanted : Parameters → ℕ → ℕ
+wanted p message = p .n * blockCount (block p) message * rows p
+
+-- a change of the key string under which each of these parties is written the same of either message
+pub record Secret (p : Parameters) (first second parties : List ℕ) : Type 0 where
+  pub change : List ℕ → List ℕ
+  -- into the key strings, one-to-one and onto them
+  pub into : (keys : List ℕ) → KeyString p (length first) keys → KeyString p (length first) (change keys)
+  pub one-to-one : (keys keys′ : List ℕ) → KeyString p (length first) keys → KeyString p (length first) keys′ → change keys ≡ change keys′ → keys ≡ keys′
+  pub onto : (keys : List ℕ) → KeyString p (length first) keys → (from : List ℕ) × KeyString p (length first) from × (change from ≡ keys)
+  -- both calls are accepted, whatever the outputs held before
+  pub accepted : (keys before before′ : List ℕ) → KeyString p (length first) keys
+      → length before ≡ wanted p (length first) → length before′ ≡ wanted p (length first)
+      → (splitRefusal p (length first) (length keys) (length before) ≡ 0) × (splitRefusal p (length second) (length (change keys)) (length before′) ≡ 0)
+  -- and write each of the parties the same bytes
+  pub same : (keys before before′ : List ℕ) → KeyString p (length first) keys
+      → length before ≡ wanted p (length first) → length before′ ≡ wanted p (length first)
+      → Each
+      (λ s.
+      partOf p (blockCount (block p) (length first)) s (splitOutput p first keys before)
+      ≡ partOf p (blockCount (block p) (length first)) s (splitOutput p second (change keys) before′))
+      parties
+
+-- for every accepted scheme, every two messages of one accepted length and every choice of at most z parties
+abbrev pub Secrecy : Parameters → Type 0
+Secrecy p =
+    Accepted p
+    → (first second : List ℕ) → Each Byte first → Each Byte second → length first ≡ length second → length first ≤ maxMessage
+    → (parties : List ℕ) → Each (Party p) parties → Distinct parties → length parties ≤ p .z
+    → Secret p first second parties
+
+-- the scheme of the form without one
+abbrev pub defaultParameters : Parameters
+defaultParameters = parameters defaultN defaultR defaultZ defaultCounts
+
+-- a call of the splitter: what its contract says of its answer and of its output before and after
+pub record Call (p : Parameters) (message keys before : List ℕ) (answer : SplitAnswer) (after : List ℕ) : Type 0 where
+  pub answered : splitOutcome answer ≡ splitAnswer p (length message) (length keys) (length before)
+  pub wrote : after ≡ splitOutput p message keys before
+
+-- the bytes that a call writes: its whole output, or none where it is refused
+unfoldable pub written : Parameters → ℕ → ℕ → ℕ → ℕ
+written p message keys out = cond (eqb (splitRefusal p message keys out) 0) out 0
+
+-- two calls with one scheme, accepted or not, and equal lengths end alike, whatever the slices hold
+abbrev pub EndsAlike : Parameters → Type 0
+EndsAlike p =
+    (message message′ keys keys′ before before′ after after′ : List ℕ) (answer answer′ : SplitAnswer)
+    → Call p message keys before answer after → Call p message′ keys′ before′ answer′ after′
+    → length message ≡ length message′ → length keys ≡ length keys′ → length before ≡ length before′
+    → (answer ≡ answer′)
+    × (written p (length message) (length keys) (length before) ≡ written p (length message′) (length keys′) (length before′))

@@ -1,0 +1,13 @@
+pub mod Points
+pub mod Groups
+pub mod Origin
+pub mod Rows
+pub mod Columns
+pub mod Bytes
+pub mod Examples
+pub mod Secrecy
+pub mod Hidden
+pub mod Order
+pub mod OneRow
+pub mod Opening
+pub mod Exactness

@@ -1,0 +1,204 @@
+-- One row of a block: it is the sum of its lower and its upper part, and the lower part that the opening finds is the only one with the row's
+-- values. By interpolation at the points, and entry by entry. Also what a row's turn writes.
+-- Assumes nothing.
+use mathlib.Core.Path.{_≡_, refl, sym, ap, ap₂, _∙_}
+use mathlib.Core.List.{List}
+use mathlib.Core.Logic.{_≢_, ⊎-elim}
+use Prim.Native.Nat.{ℕ, zero, suc, _+_, _*_, _≤_, _<_}
+use native.Mathlib.Nat.{zero-lt-suc}
+use native.Mathlib.Omega.{arith}
+use lib.Dec.{ltb}
+use lib.ListN.{length, getD, length-set, length-map, List·getD-eq-default}
+use lib.Seq.{ext-getD, getD-set-same, getD-set-other}
+use borrow.Author.Tests.{lt-ltb, le-ltb}
+use Rattle.lists.specs.Each.{Each, Distinct, Byte}
+use Rattle.lists.specs.Table.{tabulate}
+use Rattle.lists.proofs.Tests.{lt-or-le, cond-ind}
+use Rattle.lists.proofs.Each.{each-at, each-set, each-tabulate, getD-map}
+use Rattle.lists.proofs.Table.{length-tabulate, getD-tabulate, tabulate-same, tabulate-is}
+use Rattle.gf256.specs.Byte.{_⊕_}
+use Rattle.gf256.proofs.Laws.{⊕-assoc, ⊕-self, ⊕-zero, zero-⊕, ⊕-byte}
+use Rattle.interpolation.specs.Polynomial.{eval, values, plus}
+use Rattle.interpolation.specs.Interpolation.{through}
+use Rattle.interpolation.proofs.Laws.{eval-plus, eval-byte, plus-at, plus-byte, plus-length-longer, through-values, through-length, through-byte, unique}
+use Rattle.staircase.specs.Coefficients.{countOf, origin, coefficient}
+use Rattle.staircase.specs.Opening.{blockRow, upperPart, lowerPart, placed}
+use Rattle.staircase.proofs.Rows.{coefficient-byte}
+
+-- what is added twice is not there
+added-twice : (a b : ℕ) → (a ⊕ b) ⊕ b ≡ a
+added-twice a b = ⊕-assoc a b b ∙ ap (_⊕_ a) (⊕-self b) ∙ ⊕-zero a
+
+-- ---- the upper part
+
+module _ (m z : ℕ) (ds : List ℕ) (d j : ℕ) where
+  upper-length : (block : List ℕ) → length (upperPart m z ds d block j) ≡ countOf m z ds j
+  unfolding upperPart
+  upper-length block = length-tabulate (countOf m z ds j) _
+
+  upper-below : (block : List ℕ) (e : ℕ) → e < countOf m z ds j → e < d → getD (upperPart m z ds d block j) e 0 ≡ 0
+  unfolding upperPart
+  upper-below block e h l = getD-tabulate (countOf m z ds j) _ e 0 h ∙ rw (lt-ltb e d l)
+
+  upper-from : (block : List ℕ) (e : ℕ) → e < countOf m z ds j → d ≤ e → getD (upperPart m z ds d block j) e 0 ≡ getD block (origin m z ds j e) 0
+  unfolding upperPart
+  upper-from block e h l = getD-tabulate (countOf m z ds j) _ e 0 h ∙ rw (le-ltb e d l)
+
+  upper-byte : (block : List ℕ) → Each Byte block → Each Byte (upperPart m z ds d block j)
+  unfolding upperPart
+  upper-byte block h =
+      each-tabulate Byte (countOf m z ds j) _
+      (λ e l. cond-ind Byte {t = ltb e d} (λ _. zero-lt-suc 255) (λ _. each-at Byte block (origin m z ds j e) 0 (zero-lt-suc 255) h))
+
+  -- it is read off the bytes at its origins alone
+  pub upper-same : (block block′ : List ℕ)
+      → ((e : ℕ) → d ≤ e → e < countOf m z ds j → getD block (origin m z ds j e) 0 ≡ getD block′ (origin m z ds j e) 0)
+      → upperPart m z ds d block j ≡ upperPart m z ds d block′ j
+  unfolding upperPart
+  upper-same block block′ same =
+      tabulate-same (countOf m z ds j) _ _
+      (λ e h. ⊎-elim (λ (l : e < d). rw (lt-ltb e d l)) (λ (l : d ≤ e). rw (le-ltb e d l) (same e l h)) (lt-or-le e d))
+
+  -- a row is its lower and its upper part
+  pub row-parts : (block keys lower : List ℕ) → z ≤ d → d ≤ countOf m z ds j → length lower ≡ d
+      → ((e : ℕ) → e < d → getD lower e 0 ≡ coefficient m z ds block keys j e)
+      → blockRow m z ds block keys j ≡ plus lower (upperPart m z ds d block j)
+  unfolding blockRow
+  row-parts block keys lower zd wide long same =
+      let upper : List ℕ = upperPart m z ds d block j in
+      sym (tabulate-is (plus lower upper) (countOf m z ds j) (coefficient m z ds block keys j) 0
+      (plus-length-longer lower upper (rw (upper-length block, long) wide) ∙ upper-length block)
+      (λ e h.
+      plus-at lower upper e
+      ∙ ⊎-elim (λ (l : e < d). ap₂ _⊕_ (same e l) (upper-below block e h l) ∙ ⊕-zero (coefficient m z ds block keys j e))
+      (λ (l : d ≤ e).
+      ap₂ _⊕_ (List·getD-eq-default lower 0 (rw long l)) (upper-from block e h l)
+      ∙ zero-⊕ (getD block (origin m z ds j e) 0)
+      ∙ sym (coefficient-byte m z ds block keys j e (omega arith)))
+      (lt-or-le e d)))
+
+coefficient-is-byte : (m z : ℕ) (ds block keys : List ℕ) (j e : ℕ) → Each Byte block → Each Byte keys → Byte (coefficient m z ds block keys j e)
+unfolding coefficient
+coefficient-is-byte m z ds block keys j e hb hk =
+    cond-ind Byte {t = ltb e z} (λ _. each-at Byte keys (j * z + e) 0 (zero-lt-suc 255) hk)
+    (λ _. each-at Byte block (origin m z ds j e) 0 (zero-lt-suc 255) hb)
+
+-- ---- the lower part
+
+module _ (m z : ℕ) (ds xs : List ℕ) (v : ℕ → ℕ → ℕ) (block : List ℕ) (j : ℕ) where
+  pub lower-length : length (lowerPart m z ds xs v block j) ≡ length xs
+  unfolding lowerPart
+  lower-length = through-length xs _
+
+  pub lower-byte : Each Byte (lowerPart m z ds xs v block j)
+  unfolding lowerPart
+  lower-byte = through-byte xs _
+
+  pub lower-same : (block′ : List ℕ) → upperPart m z ds (length xs) block j ≡ upperPart m z ds (length xs) block′ j
+      → lowerPart m z ds xs v block j ≡ lowerPart m z ds xs v block′ j
+  unfolding lowerPart
+  lower-same block′ same = rw same
+
+  module _ (bytes : Each Byte xs) (apart : Distinct xs) (block-bytes : Each Byte block) where
+    -- the values less what the upper part adds
+    rest : ℕ → ℕ
+    rest a = v j a ⊕ eval (getD xs a 0) (upperPart m z ds (length xs) block j)
+
+    lower-at : ((a : ℕ) → a < length xs → Byte (v j a)) → (a : ℕ) → a < length xs
+        → eval (getD xs a 0) (lowerPart m z ds xs v block j) ≡ v j a ⊕ eval (getD xs a 0) (upperPart m z ds (length xs) block j)
+    unfolding lowerPart rest
+    lower-at vb a h =
+        let vs : List ℕ = tabulate (length xs) rest in
+        let upper-bytes : Each Byte (upperPart m z ds (length xs) block j) = upper-byte m z ds (length xs) j block block-bytes in
+        let vs-bytes : Each Byte vs
+        = each-tabulate Byte (length xs) rest (λ c l. ⊕-byte (v j c) _ (vb c l) (eval-byte (getD xs c 0) (upperPart m z ds (length xs) block j) upper-bytes)) in
+        sym (getD-map {A = ℕ} {B = ℕ} (λ x. eval x (through xs vs)) xs a 0 0 h)
+        ∙ ap (λ (l : List ℕ). getD l a 0) (through-values xs vs bytes apart (length-tabulate (length xs) rest) vs-bytes)
+        ∙ getD-tabulate (length xs) rest a 0 h
+
+    -- it gives the row its values
+    pub lower-values : ((a : ℕ) → a < length xs → Byte (v j a)) → (a : ℕ) → a < length xs
+        → eval (getD xs a 0) (plus (lowerPart m z ds xs v block j) (upperPart m z ds (length xs) block j)) ≡ v j a
+    lower-values vb a h =
+        let u : ℕ = eval (getD xs a 0) (upperPart m z ds (length xs) block j) in
+        eval-plus (getD xs a 0) (lowerPart m z ds xs v block j) (upperPart m z ds (length xs) block j)
+        ∙ ap (λ (w : ℕ). w ⊕ u) (lower-at vb a h)
+        ∙ added-twice (v j a) u
+
+    -- and nothing else does
+    pub lower-unique : (lower : List ℕ) → length lower ≡ length xs → Each Byte lower
+        → ((a : ℕ) → a < length xs → eval (getD xs a 0) (plus lower (upperPart m z ds (length xs) block j)) ≡ v j a)
+        → lower ≡ lowerPart m z ds xs v block j
+    lower-unique lower long lb has =
+        let upper : List ℕ = upperPart m z ds (length xs) block j in
+        let found : List ℕ = lowerPart m z ds xs v block j in
+        let upper-bytes : Each Byte upper = upper-byte m z ds (length xs) j block block-bytes in
+        let vb : (a : ℕ) → a < length xs → Byte (v j a)
+        = λ a h. rw (← has a h) (eval-byte (getD xs a 0) (plus lower upper) (plus-byte lower upper lb upper-bytes)) in
+        unique xs lower found bytes apart lb lower-byte (long ∙ sym lower-length) (omega arith)
+        (ext-getD 0 (values xs lower) (values xs found) (length-map xs (λ x. eval x lower) ∙ sym (length-map xs (λ x. eval x found)))
+        (λ a b.
+        let h : a < length xs = rw (length-map xs (λ x. eval x lower)) at b in
+        let x : ℕ = getD xs a 0 in
+        getD-map {A = ℕ} {B = ℕ} (λ y. eval y lower) xs a 0 0 h
+        ∙ sym (added-twice (eval x lower) (eval x upper))
+        ∙ ap (λ (w : ℕ). w ⊕ eval x upper) (sym (eval-plus x lower upper) ∙ has a h)
+        ∙ sym (lower-at vb a h)
+        ∙ sym (getD-map {A = ℕ} {B = ℕ} (λ y. eval y found) xs a 0 0 h)))
+
+    -- so, where the row has the values, it is the row's lower coefficients
+    pub lower-found : (keys : List ℕ) → Each Byte keys → z ≤ length xs → length xs ≤ countOf m z ds j
+        → ((a : ℕ) → a < length xs → eval (getD xs a 0) (blockRow m z ds block keys j) ≡ v j a)
+        → (e : ℕ) → e < length xs → getD (lowerPart m z ds xs v block j) e 0 ≡ coefficient m z ds block keys j e
+    lower-found keys hk low wide has e h =
+        let lower : List ℕ = tabulate (length xs) (coefficient m z ds block keys j) in
+        let long : length lower ≡ length xs = length-tabulate (length xs) (coefficient m z ds block keys j) in
+        let at : (c : ℕ) → c < length xs → getD lower c 0 ≡ coefficient m z ds block keys j c
+        = λ c l. getD-tabulate (length xs) (coefficient m z ds block keys j) c 0 l in
+        let row : blockRow m z ds block keys j ≡ plus lower (upperPart m z ds (length xs) block j)
+        = row-parts m z ds (length xs) j block keys lower low wide long at in
+        let lower-bytes : Each Byte lower
+        = each-tabulate Byte (length xs) _ (λ c l. coefficient-is-byte m z ds block keys j c block-bytes hk) in
+        let same : lower ≡ lowerPart m z ds xs v block j
+        = lower-unique lower long lower-bytes (λ a l. ap (eval (getD xs a 0)) (sym row) ∙ has a l) in
+        ap (λ (x : List ℕ). getD x e 0) (sym same) ∙ at e h
+
+-- ---- what a row's turn writes
+
+module _ (m z : ℕ) (ds : List ℕ) (j : ℕ) (lower : List ℕ) where
+  pub placed-length : (many : ℕ) (block : List ℕ) → length (placed m z ds j lower many block) ≡ length block
+  unfolding placed
+  placed-length zero block = refl
+  placed-length (suc many) block = length-set (placed m z ds j lower many block) _ _ ∙ placed-length many block
+
+  pub placed-byte : (many : ℕ) (block : List ℕ) → Each Byte lower → Each Byte block → Each Byte (placed m z ds j lower many block)
+  unfolding placed
+  placed-byte zero block lb h = h
+  placed-byte (suc many) block lb h =
+      each-set Byte (placed m z ds j lower many block) _ _ (each-at Byte lower (z + many) 0 (zero-lt-suc 255) lb) (placed-byte many block lb h)
+
+  pub placed-other : (many : ℕ) (block : List ℕ) (p : ℕ) → ((k : ℕ) → k < many → p ≢ origin m z ds j (z + k))
+      → getD (placed m z ds j lower many block) p 0 ≡ getD block p 0
+  unfolding placed
+  placed-other zero block p other = refl
+  placed-other (suc many) block p other =
+      getD-set-other (placed m z ds j lower many block) (origin m z ds j (z + many)) p _ 0 (other many (omega arith))
+      ∙ placed-other many block p (λ k h. other k (omega arith))
+
+  pub placed-at : (many : ℕ) (block : List ℕ) → ((k : ℕ) → k < many → origin m z ds j (z + k) < length block)
+      → ((k l : ℕ) → k < many → l < many → origin m z ds j (z + k) ≡ origin m z ds j (z + l) → k ≡ l)
+      → (k : ℕ) → k < many → getD (placed m z ds j lower many block) (origin m z ds j (z + k)) 0 ≡ getD lower (z + k) 0
+  unfolding placed
+  placed-at zero block inside once k h = absurd (let x : ⊥ = omega arith in x)
+  placed-at (suc many) block inside once k h =
+      let before : List ℕ = placed m z ds j lower many block in
+      let value : ℕ = getD lower (z + many) 0 in
+      ⊎-elim (λ (l : k < many).
+      let differ : origin m z ds j (z + k) ≢ origin m z ds j (z + many) = λ e. omega (arith, once k many h (omega arith) e) in
+      getD-set-other before (origin m z ds j (z + many)) (origin m z ds j (z + k)) value 0 differ
+      ∙ placed-at many block (λ i a. inside i (omega arith)) (λ i i′ a a′. once i i′ (omega arith) (omega arith)) k l)
+      (λ (l : many ≤ k).
+      let same : k ≡ many = omega arith in
+      rw same
+      (getD-set-same before (origin m z ds j (z + many)) value 0 (rw (placed-length many block) (inside many (omega arith)))))
+      (lt-or-le k many)

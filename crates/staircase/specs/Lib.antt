@@ -1,0 +1,6 @@
+pub mod Parameters
+pub mod Rows
+pub mod Coefficients
+pub mod Shares
+pub mod Mask
+pub mod Opening

@@ -1,0 +1,30 @@
+-- Staircase shares of messages: the family of one block's rows, and what the splitter writes.
+-- Assumes nothing.
+use mathlib.Core.List.{List, map}
+use Prim.Native.Nat.{ℕ, _-_, _*_}
+use lib.ListN.{length}
+use Rattle.interpolation.specs.Polynomial.{eval}
+use Rattle.lists.specs.Table.{piece}
+use Rattle.scheme.specs.Check.{blockCount}
+use Rattle.family.specs.Message.{padded}
+use Rattle.family.specs.Family.{Family, sharesOfBlocks}
+use Rattle.staircase.specs.Parameters.{Parameters, block, rows, point}
+use Rattle.staircase.specs.Rows.{rowsOf}
+
+-- party s has the value of each row of a block at its point
+unfoldable pub staircase : Parameters → Family
+staircase p =
+    record {
+      block = block p;
+      rows = rows p;
+      keys = rows p * p .z;
+      column = λ bytes keys s. map (eval (point p s)) (rowsOf (block p) (p .z) (p .counts) bytes keys);
+    }
+
+-- what the splitter writes for a message and its keys: the shares of parties 1 to n, one after another
+unfoldable pub shares : Parameters → List ℕ → List ℕ → List ℕ
+shares p message keys = sharesOfBlocks (staircase p) (p .n) (blockCount (block p) (length message)) (padded (block p) message) keys
+
+-- party s's bytes, b × N of them, in what the splitter writes for N blocks
+unfoldable pub partOf : Parameters → ℕ → ℕ → List ℕ → List ℕ
+partOf p N s output = piece (rows p * N) (s - 1) output

@@ -1,0 +1,1 @@
+// Definitions and theorems: see specs/ and proofs/. There is no code here.
