@@ -1,8 +1,10 @@
 //! The rules of the scheme, written from their document alone and by other means than the proved
 //! library: products bit by bit, inverses by trial, the block length by Euclid's algorithm.
 
+use std::sync::OnceLock;
+
 /// The product of the two bit polynomials, reduced by x^8 + x^4 + x^3 + x + 1.
-pub fn mul(a: u8, b: u8) -> u8 {
+fn bitwise_product(a: u8, b: u8) -> u8 {
     let mut product: u16 = 0;
     for i in 0..8 {
         for j in 0..8 {
@@ -17,6 +19,13 @@ pub fn mul(a: u8, b: u8) -> u8 {
         }
     }
     product as u8
+}
+
+/// The same, worked out once for all pairs.
+pub fn mul(a: u8, b: u8) -> u8 {
+    static PRODUCTS: OnceLock<Vec<u8>> = OnceLock::new();
+    let products = PRODUCTS.get_or_init(|| (0..=u16::MAX).map(|pair| bitwise_product((pair >> 8) as u8, pair as u8)).collect());
+    products[a as usize << 8 | b as usize]
 }
 
 /// The byte whose product with `a` is 1; 0 for 0.
