@@ -15,6 +15,12 @@ mod boundary {
         pub value: u64,
     }
 
+    #[repr(C)]
+    pub struct SharingBasis {
+        pub refusal: u64,
+        pub weights: [u8; 256],
+    }
+
     #[rustfmt::skip]
     extern "C" {
         pub fn gf256_mul(a: u8, b: u8) -> u8;
@@ -34,6 +40,19 @@ mod boundary {
         pub fn sharing_prefix(
             n: u8, r: u8, z: u8, counts: *const u8, counts_length: usize,
             message_length: usize, d: usize, share: *const u8, share_length: usize,
+        ) -> SharingAnswer;
+        pub fn sharing_basis(
+            n: u8, r: u8, z: u8, counts: *const u8, counts_length: usize, parties: *const u8, parties_length: usize,
+        ) -> SharingBasis;
+        pub fn sharing_basis_default(parties: *const u8, parties_length: usize) -> SharingBasis;
+        pub fn sharing_reconstruct(
+            n: u8, r: u8, z: u8, counts: *const u8, counts_length: usize, message_length: usize,
+            parties: *const u8, parties_length: usize, prefixes: *const u8, prefixes_length: usize,
+            out: *mut u8, out_length: usize,
+        ) -> SharingAnswer;
+        pub fn sharing_reconstruct_default(
+            message_length: usize, parties: *const u8, parties_length: usize,
+            prefixes: *const u8, prefixes_length: usize, out: *mut u8, out_length: usize,
         ) -> SharingAnswer;
         pub fn sharing_prefix_default(message_length: usize, d: usize, share: *const u8, share_length: usize) -> SharingAnswer;
     }
@@ -122,4 +141,67 @@ pub fn prefix(n: u8, r: u8, z: u8, counts: &[u8], length: usize, d: usize, share
 
 pub fn prefix_default(length: usize, d: usize, share: &[u8]) -> Answer {
     answer(unsafe { boundary::sharing_prefix_default(length, d, share.as_ptr(), share.len()) })
+}
+
+/// The weights, row after row of 16, or the number of the refusal.
+pub type Basis = Result<[u8; 256], u64>;
+
+fn basis_answer(answer: boundary::SharingBasis) -> Basis {
+    if answer.refusal == 0 {
+        Ok(answer.weights)
+    } else {
+        assert_eq!(answer.weights, [0; 256], "a refusal comes alone");
+        Err(answer.refusal)
+    }
+}
+
+pub fn basis(n: u8, r: u8, z: u8, counts: &[u8], parties: &[u8]) -> Basis {
+    basis_answer(unsafe { boundary::sharing_basis(n, r, z, counts.as_ptr(), counts.len(), parties.as_ptr(), parties.len()) })
+}
+
+pub fn basis_default(parties: &[u8]) -> Basis {
+    basis_answer(unsafe { boundary::sharing_basis_default(parties.as_ptr(), parties.len()) })
+}
+
+#[allow(clippy::too_many_arguments)]
+pub fn reconstruct(
+    n: u8,
+    r: u8,
+    z: u8,
+    counts: &[u8],
+    length: usize,
+    parties: &[u8],
+    prefixes: &[u8],
+    out: &mut [u8],
+) -> Answer {
+    answer(unsafe {
+        boundary::sharing_reconstruct(
+            n,
+            r,
+            z,
+            counts.as_ptr(),
+            counts.len(),
+            length,
+            parties.as_ptr(),
+            parties.len(),
+            prefixes.as_ptr(),
+            prefixes.len(),
+            out.as_mut_ptr(),
+            out.len(),
+        )
+    })
+}
+
+pub fn reconstruct_default(length: usize, parties: &[u8], prefixes: &[u8], out: &mut [u8]) -> Answer {
+    answer(unsafe {
+        boundary::sharing_reconstruct_default(
+            length,
+            parties.as_ptr(),
+            parties.len(),
+            prefixes.as_ptr(),
+            prefixes.len(),
+            out.as_mut_ptr(),
+            out.len(),
+        )
+    })
 }

@@ -25,7 +25,7 @@ fn bitwise_product(a: u8, b: u8) -> u8 {
 pub fn mul(a: u8, b: u8) -> u8 {
     static PRODUCTS: OnceLock<Vec<u8>> = OnceLock::new();
     let products = PRODUCTS.get_or_init(|| (0..=u16::MAX).map(|pair| bitwise_product((pair >> 8) as u8, pair as u8)).collect());
-    products[a as usize << 8 | b as usize]
+    products[256 * a as usize + b as usize]
 }
 
 /// The byte whose product with `a` is 1; 0 for 0.

@@ -10,9 +10,15 @@ ghost use Rattle.staircase.specs.Parameters.{parameters};
 ghost use Rattle.sharing.specs.Answers.{splitOutcome, prefixOutcome};
 ghost use Rattle.sharing.specs.Split.{splitAnswer, splitOutput};
 ghost use Rattle.sharing.specs.Prefix.{prefixAnswer};
+ghost use Rattle.sharing.specs.Answers.{basisOutcome, reconstructOutcome};
+ghost use Rattle.sharing.specs.Reconstruct.{reconstructAnswer, reconstructOutput};
+ghost use Rattle.sharing.specs.Basis.{basisRefusal, basisOf};
+ghost use Rattle.exports.specs.Fields.{flattened};
 ghost use Rattle.exports.specs.Fields.{schemeFields, checkedFields, answerFields, valueFields};
 use scheme::SchemeAnswer;
+use sharing::BasisAnswer;
 use sharing::PrefixAnswer;
+use sharing::ReconstructAnswer;
 use sharing::SplitAnswer;
 
 #[repr(C)]
@@ -26,6 +32,13 @@ pub struct SharingScheme {
 pub struct SharingAnswer {
     pub refusal: u64,
     pub value: u64,
+}
+
+// Row: the place of the party in the list; column: the degree. All zero on a refusal.
+#[repr(C)]
+pub struct SharingBasis {
+    pub refusal: u64,
+    pub weights: [u8; 256],
 }
 
 #[no_mangle]
@@ -157,6 +170,98 @@ fn prefix_fields(answer: PrefixAnswer) -> SharingAnswer
             value: bytes as u64,
         },
         PrefixAnswer::Refused(number) => SharingAnswer {
+            refusal: number as u64,
+            value: 0,
+        },
+    }
+}
+
+#[no_mangle]
+pub extern "C" fn sharing_basis(n: u8, r: u8, z: u8, counts: &[u8], parties: &[u8]) -> SharingBasis
+    ensures { λ a. ⌜ (a .refusal ≡ basisRefusal (parameters n r z (now (counts .entry))) (now (parties .entry))) × (a .weights ≡ flattened (basisOf (parameters n r z (now (counts .entry))) (now (parties .entry)))) ⌝ }
+{
+    let refusal = basis_number(sharing::basis_size(n, r, z, counts, parties));
+    let weights = in_one_row(sharing::basis(n, r, z, counts, parties));
+    SharingBasis { refusal, weights }
+}
+
+#[no_mangle]
+pub extern "C" fn sharing_basis_default(parties: &[u8]) -> SharingBasis
+    ensures { λ a. ⌜ (a .refusal ≡ basisRefusal (parameters defaultN defaultR defaultZ defaultCounts) (now (parties .entry))) × (a .weights ≡ flattened (basisOf (parameters defaultN defaultR defaultZ defaultCounts) (now (parties .entry)))) ⌝ }
+{
+    let refusal = basis_number(sharing::basis_size_default(parties));
+    let weights = in_one_row(sharing::basis_default(parties));
+    SharingBasis { refusal, weights }
+}
+
+fn basis_number(answer: BasisAnswer) -> u64
+    ensures { λ q. ⌜ q ≡ basisOutcome answer .number ⌝ }
+{
+    match answer {
+        BasisAnswer::Size(_) => 0,
+        BasisAnswer::Refused(number) => number as u64,
+    }
+}
+
+fn in_one_row(table: [[u8; 16]; 16]) -> [u8; 256]
+    ensures { λ weights. ⌜ weights ≡ flattened table ⌝ }
+{
+    let mut weights = [0u8; 256];
+    let mut k = 0;
+    while k < 256 {
+        let row = table[k / 16];
+        weights[k] = row[k % 16];
+        k += 1;
+    }
+    weights
+}
+
+#[no_mangle]
+pub extern "C" fn sharing_reconstruct(
+    n: u8,
+    r: u8,
+    z: u8,
+    counts: &[u8],
+    message_length: usize,
+    parties: &[u8],
+    prefixes: &[u8],
+    out: &mut [u8],
+) -> SharingAnswer
+    ensures { λ a. ⌜ (answerFields a ≡ valueFields (reconstructAnswer (parameters n r z (now (counts .entry))) «message_length» (now (parties .entry)) (length (now (prefixes .entry))) (length (now (out .entry))))) × (now (out .exit) ≡ reconstructOutput (parameters n r z (now (counts .entry))) «message_length» (now (parties .entry)) (now (prefixes .entry)) (now (out .entry))) ⌝ }
+{
+    reconstruct_fields(sharing::reconstruct(
+        n,
+        r,
+        z,
+        counts,
+        message_length,
+        parties,
+        prefixes,
+        out,
+    ))
+}
+
+#[no_mangle]
+pub extern "C" fn sharing_reconstruct_default(
+    message_length: usize,
+    parties: &[u8],
+    prefixes: &[u8],
+    out: &mut [u8],
+) -> SharingAnswer
+    ensures { λ a. ⌜ (answerFields a ≡ valueFields (reconstructAnswer (parameters defaultN defaultR defaultZ defaultCounts) «message_length» (now (parties .entry)) (length (now (prefixes .entry))) (length (now (out .entry))))) × (now (out .exit) ≡ reconstructOutput (parameters defaultN defaultR defaultZ defaultCounts) «message_length» (now (parties .entry)) (now (prefixes .entry)) (now (out .entry))) ⌝ }
+{
+    reconstruct_fields(sharing::reconstruct_default(message_length, parties, prefixes, out))
+}
+
+fn reconstruct_fields(answer: ReconstructAnswer) -> SharingAnswer
+    ensures { λ a. ⌜ answerFields a ≡ valueFields (reconstructOutcome answer) ⌝ }
+{
+    match answer {
+        ReconstructAnswer::Used(bytes) => SharingAnswer {
+            refusal: 0,
+            value: bytes as u64,
+        },
+        ReconstructAnswer::Refused(number) => SharingAnswer {
             refusal: number as u64,
             value: 0,
         },

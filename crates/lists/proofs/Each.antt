@@ -1,11 +1,12 @@
 -- Laws of `Each`, and the test `distinct` against `Distinct`. Each is an induction over the list.
 -- Assumes nothing.
-use mathlib.Core.Path.{_≡_, refl, ap₂}
-use mathlib.Core.Bool.{true, false, not}
+use mathlib.Core.Path.{_≡_, refl, sym, ap₂}
+use mathlib.Core.Bool.{true, false, not, true≢false}
 use mathlib.Core.Logic.{_≢_}
 use mathlib.Core.List.{List, [], _∷_, _++_, map}
 use Prim.Native.Nat.{ℕ, zero, suc, _<_, suc-le-suc}
 use native.Mathlib.Nat.{le-of-suc-le-suc, not-suc-le-zero, le-refl, le-step, zero-lt-suc}
+use native.Mathlib.Decide.{ℕ-discrete}
 use lib.Dec.{eqb}
 use lib.ListN.{length, getD, set, take, drop, replicate}
 use borrow.Author.Tests.{eqb-false, ne-eqb, not-true}
@@ -121,3 +122,15 @@ pub true-distinct : (l : List ℕ) → Distinct l → distinct l ≡ true
 unfolding distinct
 true-distinct [] h = refl
 true-distinct (x ∷ xs) h = simp (false-occurs x xs (h .0), true-distinct xs (h .1))
+
+-- a number that occurs has a place
+pub occurs-place : (x : ℕ) (l : List ℕ) → occurs x l ≡ true → (i : ℕ) × (i < length l) × (getD l i 0 ≡ x)
+unfolding occurs
+occurs-place x [] e = absurd (true≢false (sym e))
+occurs-place x (y ∷ ys) e = at (ℕ-discrete x y) (λ n. occurs-place x ys (rw (ne-eqb x y n) at e))
+  where
+    at : Dec (x ≡ y) → (x ≢ y → (i : ℕ) × (i < length ys) × (getD ys i 0 ≡ x)) → (i : ℕ) × (i < length (y ∷ ys)) × (getD (y ∷ ys) i 0 ≡ x)
+    at (yes s) later = (0, zero-lt-suc (length ys), sym s)
+    at (no n) later =
+        let found = later n in
+        (suc (found .0), suc-le-suc (found .1), found .2)

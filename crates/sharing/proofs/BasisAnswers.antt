@@ -113,3 +113,8 @@ points-all p parties points i l m F =
     let e : length parties ≡ i = omega arith in
     rw e (F .is)
     ∙ sym (tabulate-is (map (point p) parties) i (λ k. point p (getD parties k 0)) 0 (length-map parties (point p) ∙ e) (λ k b. getD-map (point p) parties k 0 0 (rw e b)))
+
+-- the answer's number
+pub basis-number : (p : Parameters) (parties : List ℕ) → basisAnswer p parties .number ≡ basisRefusal p parties
+unfolding basisAnswer
+basis-number p parties = answer-number (basisRefusal p parties) (length parties ∷ [])

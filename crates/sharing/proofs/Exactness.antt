@@ -1,18 +1,17 @@
 -- Demand 2: every string of prefixes opens to the one string of whole blocks that has them, and what was split comes back.
 -- Assumes nothing.
 use mathlib.Core.Path.{_≡_, refl, sym, ap, ap₂, _∙_}
-use mathlib.Core.Bool.{Bool, true, false, true≢false}
+use mathlib.Core.Bool.{true, false}
 use mathlib.Core.List.{List, [], _∷_, map}
-use Prim.Native.Nat.{ℕ, zero, suc, _+_, _-_, _*_, _≤_, _<_, suc-le-suc}
-use native.Mathlib.Nat.{mul-assoc, mul-comm, add-mul, zero-lt-suc, mul-le-mul-right}
+use Prim.Native.Nat.{ℕ, _+_, _*_, _≤_, _<_}
+use native.Mathlib.Nat.{mul-assoc, mul-comm, add-mul, mul-le-mul-right}
 use native.Mathlib.Omega.{arith}
-use lib.Dec.{eqb}
 use lib.ListN.{length, getD, take}
 use lib.Seq.{getD-take, length-take-le}
-use borrow.Author.Tests.{eqb-true, eq-eqb, le-ltb}
+use borrow.Author.Tests.{eq-eqb, le-ltb}
 use Rattle.lists.specs.Each.{Each, Distinct, Byte, occurs}
 use Rattle.lists.specs.Table.{joined, piece}
-use Rattle.lists.proofs.Each.{each-getD}
+use Rattle.lists.proofs.Each.{each-getD, occurs-place}
 use Rattle.lists.proofs.Joined.{below-product, length-joined, joined-same, piece-joined}
 use Rattle.lists.proofs.Piece.{getD-piece}
 use Rattle.scheme.specs.Limits.{maxMessage}
@@ -40,19 +39,10 @@ use Rattle.sharing.proofs.Secrecy.{keys-number}
 use Rattle.sharing.proofs.Dealing.{none-applies, written}
 
 -- the place of a count in the list
-abbrev Place : ℕ → List ℕ → Type 0
-Place d ds = (i : ℕ) × (i < length ds) × (d ≡ getD ds i 0)
-
-place-by : (d c : ℕ) (ds : List ℕ) (t : Bool) → eqb d c ≡ t → (t ≡ false → Place d ds) → Place d (c ∷ ds)
-place-by d c ds true q later = (0, zero-lt-suc (length ds), eqb-true d c q)
-place-by d c ds false q later =
-    let rest = later refl in
-    (suc (rest .0), suc-le-suc (rest .1), rest .2)
-
-place-of-count : (d : ℕ) (ds : List ℕ) → occurs d ds ≡ true → Place d ds
-unfolding occurs
-place-of-count d [] e = absurd (true≢false (sym e))
-place-of-count d (c ∷ ds) e = place-by d c ds (eqb d c) refl (λ q. place-of-count d ds (rw q at e))
+place-of-count : (d : ℕ) (ds : List ℕ) → occurs d ds ≡ true → (i : ℕ) × (i < length ds) × (d ≡ getD ds i 0)
+place-of-count d ds e =
+    let at = occurs-place d ds e in
+    (at .0, at .1, sym (at .2))
 
 module _ (p : Parameters) (A : Accepted p) (parties : List ℕ) (counted : occurs (length parties) (p .counts) ≡ true) (passed : partiesRefused (p .n) parties ≡ false) where
   abbrev sent : ℕ

@@ -6,6 +6,12 @@ mod Strips
 mod RowLoop
 mod Gathered
 mod Runs
+mod Writes
+mod Readings
+mod RowStep
+mod LaterRows
+mod RowOrder
+mod GroupOrder
 mod Answers
 mod Sizes
 mod Handing
@@ -16,3 +22,5 @@ mod BasisTable
 pub mod Laws
 pub mod Secrecy
 pub mod Exactness
+mod Reading
+mod OpenerAnswers

@@ -11,6 +11,8 @@ use Rattle.sharing.specs.declared.PrefixAnswer.{PrefixAnswer}
 use Rattle.sharing.specs.declared.PrefixAnswer.the-variants.{Length, Refused as NotHanded}
 use Rattle.sharing.specs.declared.BasisAnswer.{BasisAnswer}
 use Rattle.sharing.specs.declared.BasisAnswer.the-variants.{Size, Refused as NoBasis}
+use Rattle.sharing.specs.declared.ReconstructAnswer.{ReconstructAnswer}
+use Rattle.sharing.specs.declared.ReconstructAnswer.the-variants.{Used, Refused as NotOpened}
 
 -- a refusal's number where its condition holds, else 0
 abbrev pub when : ℕ → Bool → ℕ
@@ -39,3 +41,8 @@ prefixOutcome (NotHanded number) = refused number
 abbrev pub basisOutcome : BasisAnswer → Outcome
 basisOutcome (Size parties) = accepted (parties ∷ [])
 basisOutcome (NoBasis number) = refused number
+
+-- the cases of the opener's answer: the prefix bytes used
+abbrev pub reconstructOutcome : ReconstructAnswer → Outcome
+reconstructOutcome (Used bytes) = accepted (bytes ∷ [])
+reconstructOutcome (NotOpened number) = refused number

@@ -7,3 +7,4 @@ pub mod Secrecy
 pub mod Exactness
 pub mod Columns
 pub mod Sources
+pub mod Decoding

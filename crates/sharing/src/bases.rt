@@ -109,7 +109,7 @@ pub(crate) fn parties_refused(n: u8, parties: &[u8]) -> bool
 }
 
 // The points of at most 16 parties, in their order.
-fn points_of(parties: &[u8]) -> [u8; SIDE]
+pub(crate) fn points_of(parties: &[u8]) -> [u8; SIDE]
     requires { ⌜ length (now parties) ≤ side ⌝ }
     ensures { λ points. ⌜ ((p : Parameters) → take (length (now (parties .entry))) points ≡ map (point p) (now (parties .entry))) ⌝ }
 {

@@ -70,7 +70,7 @@ fn put(values: [u8; LANES], out: &mut [u8])
 }
 
 // The row's values at a point, from its first d columns.
-fn row_values(columns: &[[u8; LANES]; SIDE], d: usize, point: u8) -> [u8; LANES]
+pub(crate) fn row_values(columns: &[[u8; LANES]; SIDE], d: usize, point: u8) -> [u8; LANES]
     requires { ⌜ (d ≤ side) × (length (now columns) ≡ side) ⌝ }
     ensures { λ r. ⌜ r ≡ valuesOf point (take d (now (columns .entry))) ⌝ }
 {

@@ -1,9 +1,11 @@
 // Secret sharing by staircase polynomials over bytes: a message is split into shares, a party hands out the
-// prefix of its share, and the readers' Lagrange basis is worked out.
+// prefix of its share, the readers' Lagrange basis is worked out, and a message is reconstructed from prefixes.
 ghost use mathlib.Core.Path.{_≡_};
 
 mod bases;
 mod columns;
+mod decoding;
+mod opening;
 mod origins;
 mod prefixes;
 mod rows;
@@ -13,6 +15,8 @@ pub use bases::basis;
 pub use bases::basis_default;
 pub use bases::basis_size;
 pub use bases::basis_size_default;
+pub use opening::reconstruct;
+pub use opening::reconstruct_default;
 pub use prefixes::prefix;
 pub use prefixes::prefix_default;
 pub use prefixes::prefix_length;
@@ -36,6 +40,12 @@ pub enum PrefixAnswer {
 // of the first refusal that applies.
 pub enum BasisAnswer {
     Size(usize),
+    Refused(u8),
+}
+
+// The opener's answer: the prefix bytes used, or the number of the first refusal that applies.
+pub enum ReconstructAnswer {
+    Used(usize),
     Refused(u8),
 }
 

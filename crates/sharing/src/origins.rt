@@ -8,7 +8,7 @@ use crate::wide;
 use scheme::Scheme;
 
 // The group of a row, counted from 0.
-fn group_of(s: Scheme, counts: &[u8], row: usize) -> usize
+pub(crate) fn group_of(s: Scheme, counts: &[u8], row: usize) -> usize
     ensures { λ i. ⌜ i ≡ coefficients.groupOf (s .block) (s .z) (now (counts .entry)) row ⌝ }
 {
     let block = s.block;

@@ -66,7 +66,7 @@ fn row_columns(
 }
 
 // The blocks of the next run, of those that are left: at most 64.
-fn run_of(left: usize) -> usize
+pub(crate) fn run_of(left: usize) -> usize
     ensures { λ many. ⌜ (many ≤ lanes) × (many ≤ left) × (0 < left → 0 < many) ⌝ }
 {
     if LANES < left {

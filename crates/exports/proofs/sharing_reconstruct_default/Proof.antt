@@ -1,0 +1,12 @@
+-- `exports::sharing_reconstruct_default` meets its contract: the fields of what `sharing::reconstruct_default` answers, and the output that it writes.
+-- Assumes nothing.
+use mathlib.Core.Path.{ap, _∙_}
+use borrow.Author.Needs.{needs}
+use Rattle.exports.specs.Fields.{valueFields}
+use Rattle.exports.proofs.sharing_reconstruct_default.Statement.{statement}
+use Rattle.exports.proofs.sharing_reconstruct_default.Tie as tie
+
+pub sharing-reconstruct-default-spec : {M : Type 1} → statement M
+sharing-reconstruct-default-spec =
+    tie.close
+    (tie.spec (λ c κs. search needs) (λ c κs. search needs) (λ c. search needs) (λ c. (c .reconstruct-fields .ensures ∙ ap valueFields (c .before .before .before .reconstruct-default .ensures .0), c .before .before .before .reconstruct-default .ensures .1)))
