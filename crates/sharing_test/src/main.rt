@@ -11,7 +11,9 @@ fn main() {
     examples();
     small_schemes();
     orders();
-    refusals();
+    schemes_refused();
+    lengths_refused();
+    prefixes();
     openings();
     openings_of_groups();
     openings_of_other_schemes();
@@ -21,18 +23,10 @@ fn main() {
 // The examples of document 01.
 fn examples() {
     let mut out = [0u8; 6];
-    show(3, 1, 1, b"\x03\x02", b"\x05\x07", b"\x09\x04", &mut out);
-    show(3, 1, 1, b"\x03\x02", b"\x00\x00", b"\x1f\x0a", &mut out);
+    show_a(b"\x05\x07", b"\x09\x04", &mut out);
+    show_a(b"\x00\x00", b"\x1f\x0a", &mut out);
     let mut longer = [0u8; 12];
-    show(
-        3,
-        1,
-        1,
-        b"\x03\x02",
-        b"\x05\x07\x01",
-        b"\x09\x04\x02\x06",
-        &mut longer,
-    );
+    show_a(b"\x05\x07\x01", b"\x09\x04\x02\x06", &mut longer);
 }
 
 // The scheme of Figure 2b, the default, one count alone, and an empty message.
@@ -54,71 +48,42 @@ fn orders() {
     show_pattern(9, 4, 2, b"\x09\x07\x05", 105, 70, 315);
 }
 
-// Refusals, alone and several at once.
-fn refusals() {
+// Refused schemes.
+fn schemes_refused() {
     let mut out = [7u8; 6];
     show(1, 1, 1, b"\x03\x02", b"\x05\x07", b"\x09\x04", &mut out);
     show(3, 1, 0, b"\x03\x02", b"\x05\x07", b"\x09\x04", &mut out);
     show(3, 1, 1, b"\x03\x03", b"\x05\x07", b"\x09\x04", &mut out);
-    show(
-        10,
-        4,
-        1,
-        b"\x0a\x09\x08\x06",
-        b"\x05\x07",
-        b"\x09\x04",
-        &mut out,
-    );
-    show(3, 1, 1, b"\x03\x02", b"\x05\x07", b"\x09", &mut out);
-    show(
-        3,
-        1,
-        1,
-        b"\x03\x02",
-        b"\x05\x07\x01",
-        b"\x09\x04\x02\x06",
-        &mut out,
-    );
-    show(3, 1, 1, b"\x03\x02", b"\x05\x07\x01", b"\x09", &mut out);
+    let counts = b"\x0a\x09\x08\x06";
+    show(10, 4, 1, counts, b"\x05\x07", b"\x09\x04", &mut out);
+}
+
+// Refused lengths, alone and two at once.
+fn lengths_refused() {
+    let mut out = [7u8; 6];
+    show_a(b"\x05\x07", b"\x09", &mut out);
+    show_a(b"\x05\x07\x01", b"\x09\x04\x02\x06", &mut out);
+    show_a(b"\x05\x07\x01", b"\x09", &mut out);
     let long = [0u8; 16385];
-    show(3, 1, 1, b"\x03\x02", &long, b"\x09", &mut out);
-    show_prefix(16384, 3, &long[..8196]);
-    show_prefix(16385, 3, &long[..8196]);
-    show_prefix(12, 4, &long[..6]);
-    show_prefix(12, 2, &long[..6]);
-    show_prefix(12, 4, &long[..7]);
+    show_a(&long, b"\x09", &mut out);
+}
+
+// Prefixes in the default scheme, handed out and refused.
+fn prefixes() {
+    let share = [0u8; 8196];
+    show_prefix(16384, 3, &share);
+    show_prefix(16385, 3, &share);
+    show_prefix(12, 4, &share[..6]);
+    show_prefix(12, 2, &share[..6]);
+    show_prefix(12, 4, &share[..7]);
 }
 
 // Openings: the examples of document 01, and prefixes that no splitter wrote.
 fn openings() {
     let mut out = [0u8; 2];
-    show_opened(
-        3,
-        1,
-        1,
-        b"\x03\x02",
-        b"\x01\x02\x03",
-        b"\x0b\x1f\x1d",
-        &mut out,
-    );
-    show_opened(
-        3,
-        1,
-        1,
-        b"\x03\x02",
-        b"\x01\x03",
-        b"\x0b\x03\x1d\x0d",
-        &mut out,
-    );
-    show_opened(
-        3,
-        1,
-        1,
-        b"\x03\x02",
-        b"\x02\x03",
-        b"\x01\x02\x03\x04",
-        &mut out,
-    );
+    open_a(b"\x01\x02\x03", b"\x0b\x1f\x1d", &mut out);
+    open_a(b"\x01\x03", b"\x0b\x03\x1d\x0d", &mut out);
+    open_a(b"\x02\x03", b"\x01\x02\x03\x04", &mut out);
 }
 
 // More of them, with several groups of rows.
@@ -172,27 +137,20 @@ fn openings_of_other_schemes() {
 // Refused openings, which leave the output as it was.
 fn openings_refused() {
     let mut out = [5u8; 2];
-    show_opened(3, 1, 1, b"\x03\x02", b"\x01", b"\x0b\x03", &mut out);
-    show_opened(
-        3,
-        1,
-        1,
-        b"\x03\x02",
-        b"\x03\x01",
-        b"\x0b\x03\x1d\x0d",
-        &mut out,
-    );
-    show_opened(
-        3,
-        1,
-        1,
-        b"\x03\x02",
-        b"\x01\x04",
-        b"\x0b\x03\x1d\x0d",
-        &mut out,
-    );
-    show_opened(3, 1, 1, b"\x03\x02", b"\x01\x03", b"\x0b\x03\x1d", &mut out);
+    open_a(b"\x01", b"\x0b\x03", &mut out);
+    open_a(b"\x03\x01", b"\x0b\x03\x1d\x0d", &mut out);
+    open_a(b"\x01\x04", b"\x0b\x03\x1d\x0d", &mut out);
+    open_a(b"\x01\x03", b"\x0b\x03\x1d", &mut out);
     show_opened(3, 1, 1, b"\x03\x03", b"\x01\x03", b"\x0b\x03\x1d", &mut out);
+}
+
+// Document 01's plan A: three parties, one may be absent and one may spy, counts 3 and 2.
+fn show_a(message: &[u8], keys: &[u8], out: &mut [u8]) {
+    show(3, 1, 1, b"\x03\x02", message, keys, out);
+}
+
+fn open_a(parties: &[u8], prefixes: &[u8], out: &mut [u8]) {
+    show_opened(3, 1, 1, b"\x03\x02", parties, prefixes, out);
 }
 
 // Opens a message as long as the output, and prints the answer and what the output then holds.
