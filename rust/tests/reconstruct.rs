@@ -1,31 +1,8 @@
 //! The basis and the opener against the other implementation, and round trips.
 
+use gilunavoi::cases::Scheme;
 use gilunavoi::random::Random;
 use gilunavoi::{library, reference};
-
-struct Scheme {
-    n: u8,
-    r: u8,
-    z: u8,
-    counts: Vec<u8>,
-    m: usize,
-    b: usize,
-}
-
-/// An accepted scheme with blocks of at most `longest` bytes.
-fn scheme(random: &mut Random, longest: usize) -> Scheme {
-    loop {
-        let n = 2 + random.below(15) as u8;
-        let r = random.below(n as usize) as u8;
-        let z = 1 + random.below(n as usize) as u8;
-        let low = n - r;
-        let counts: Vec<u8> = (low..=n).filter(|&d| d == low || random.below(3) == 0).rev().collect();
-        match reference::check(n, r, z, &counts) {
-            Ok((m, b)) if m as usize <= longest => return Scheme { n, r, z, counts, m: m as usize, b: b as usize },
-            _ => {}
-        }
-    }
-}
 
 /// d of the n parties, rising.
 fn parties(random: &mut Random, n: u8, d: usize) -> Vec<u8> {
@@ -41,7 +18,7 @@ fn bases() {
     let mut random = Random::new(7);
     let mut accepted = 0;
     for _ in 0..10_000 {
-        let mut s = scheme(&mut random, 840);
+        let mut s = Scheme::drawn(&mut random, 840);
         let d = s.counts[random.below(s.counts.len())] as usize;
         let mut list = parties(&mut random, s.n, d);
         match random.below(8) {
@@ -91,7 +68,7 @@ fn prefixes_that_no_splitter_wrote_and_refusals() {
     let mut random = Random::new(8);
     let mut accepted = 0;
     for _ in 0..1500 {
-        let mut s = scheme(&mut random, 24);
+        let mut s = Scheme::drawn(&mut random, 24);
         let d = s.counts[random.below(s.counts.len())] as usize;
         let mut list = parties(&mut random, s.n, d);
         let mut length = random.below(3 * s.m + 2);
@@ -139,20 +116,26 @@ fn round_trips(s: &Scheme, length: usize, random: &mut Random) {
 #[test]
 fn what_was_split_comes_back() {
     let mut random = Random::new(9);
-    let named = [(5, 2, 1, vec![5, 4, 3]), (7, 4, 1, vec![7, 4, 3]), (9, 3, 1, vec![9, 8, 7, 6]), (10, 4, 1, vec![10, 6])];
+    let named = [
+        (5, 2, 1, vec![5, 4, 3]),
+        (7, 4, 1, vec![7, 4, 3]),
+        (9, 3, 1, vec![9, 8, 7, 6]),
+        (10, 4, 1, vec![10, 6]),
+        (8, 2, 3, vec![8, 6]),
+        (9, 4, 2, vec![9, 7, 5]),
+    ];
     for (n, r, z, counts) in named {
-        let (m, b) = reference::check(n, r, z, &counts).unwrap();
-        let s = Scheme { n, r, z, counts, m: m as usize, b: b as usize };
+        let s = Scheme::new(n, r, z, counts).unwrap();
         for length in [0, 1, s.m - 1, s.m, s.m + 1, 64 * s.m + 1, 16384] {
             round_trips(&s, length.min(16384), &mut random);
         }
     }
     for _ in 0..1000 {
-        let s = scheme(&mut random, 840);
+        let s = Scheme::drawn(&mut random, 840);
         let length = random.below(3 * s.m + 2).min(16384);
         round_trips(&s, length, &mut random);
     }
-    println!("1028 messages");
+    println!("1042 messages");
 }
 
 #[test]

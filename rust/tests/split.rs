@@ -1,31 +1,9 @@
 //! Splitting and prefixes against the other implementation: shares, refusals alone and several at
 //! once, and outputs that stay as they were.
 
+use gilunavoi::cases::Scheme;
 use gilunavoi::random::Random;
 use gilunavoi::{library, reference};
-
-struct Scheme {
-    n: u8,
-    r: u8,
-    z: u8,
-    counts: Vec<u8>,
-    m: usize,
-    b: usize,
-}
-
-/// An accepted scheme.
-fn scheme(random: &mut Random) -> Scheme {
-    loop {
-        let n = 2 + random.below(15) as u8;
-        let r = random.below(n as usize) as u8;
-        let z = 1 + random.below(n as usize) as u8;
-        let low = n - r;
-        let counts: Vec<u8> = (low..=n).filter(|&d| d == low || random.below(3) == 0).rev().collect();
-        if let Ok((m, b)) = reference::check(n, r, z, &counts) {
-            return Scheme { n, r, z, counts, m: m as usize, b: b as usize };
-        }
-    }
-}
 
 /// Compares one call, with guard bytes around the output.
 fn compare(s: &Scheme, message: &[u8], keys: &[u8], out: usize, random: &mut Random) -> bool {
@@ -59,7 +37,7 @@ fn length(random: &mut Random, m: usize) -> usize {
 fn shares() {
     let mut random = Random::new(3);
     for case in 0..3000 {
-        let s = scheme(&mut random);
+        let s = Scheme::drawn(&mut random, 840);
         let length = if case % 100 == 0 { 16384 } else { length(&mut random, s.m) };
         let blocks = length.div_ceil(s.m);
         let (message, keys) = (random.bytes(length), random.bytes(blocks * s.z as usize * s.b));
@@ -73,7 +51,7 @@ fn refusals() {
     let mut random = Random::new(4);
     let mut refused = 0;
     for _ in 0..20_000 {
-        let mut s = scheme(&mut random);
+        let mut s = Scheme::drawn(&mut random, 840);
         let mut length = length(&mut random, s.m) % 400;
         let mut blocks = length.div_ceil(s.m);
         if random.below(6) == 0 {
@@ -108,7 +86,7 @@ fn prefixes() {
     let mut random = Random::new(5);
     let mut accepted = 0;
     for _ in 0..20_000 {
-        let mut s = scheme(&mut random);
+        let mut s = Scheme::drawn(&mut random, 840);
         let length = match random.below(12) {
             0 => 16385,
             1 => usize::MAX - random.below(3),
