@@ -11,7 +11,7 @@ fn differ(a: u8, b: u8) -> u64
 }
 
 // The pairs of bytes, of all, on which the product by tables and that by shifting differ.
-pub fn different_products() -> u64 {
+pub(crate) fn different_products() -> u64 {
     let mut count: u64 = 0;
     let mut i: u64 = 0;
     while i < 65536 {
@@ -24,7 +24,7 @@ pub fn different_products() -> u64 {
 }
 
 // The bytes above 0 that give 1 times their inverse.
-pub fn inverses() -> u64 {
+pub(crate) fn inverses() -> u64 {
     let mut count: u64 = 0;
     let mut a: u64 = 1;
     while a < 256 {
@@ -77,7 +77,7 @@ fn scaled_apart(x: [u8; LANES], by: u8) -> u64
 }
 
 // Over four arrays that hold every byte, each with 256 others: every pair of bytes once.
-pub fn different_sums() -> u64 {
+pub(crate) fn different_sums() -> u64 {
     let mut count: u64 = 0;
     let mut i: u64 = 0;
     while i < 1024 {
@@ -88,7 +88,7 @@ pub fn different_sums() -> u64 {
 }
 
 // Over the same four arrays, each with all 256 factors: every pair of bytes once.
-pub fn different_scaled() -> u64 {
+pub(crate) fn different_scaled() -> u64 {
     let mut count: u64 = 0;
     let mut i: u64 = 0;
     while i < 1024 {

@@ -13,7 +13,7 @@ fn substituted(a: u8) -> u8 {
 }
 
 // That of every byte, in 16 lines of 16.
-pub fn print_all() {
+pub(crate) fn print_all() {
     let mut a: u64 = 0;
     while a < 256 {
         io::print_hex(STDOUT_FILENO, substituted(a as u8) as u64, 2);
