@@ -33,6 +33,14 @@ unfolding _⊕_
 pub ⊕-twice : (a b : ℕ) → a ⊕ (a ⊕ b) ≡ b
 ⊕-twice a b = sym (⊕-assoc a a b) ∙ ap (λ x. x ⊕ b) (⊕-self a) ∙ zero-⊕ b
 
+-- what is added twice is not there
+pub ⊕-back : (a b : ℕ) → (a ⊕ b) ⊕ b ≡ a
+⊕-back a b = ⊕-assoc a b b ∙ ap (_⊕_ a) (⊕-self b) ∙ ⊕-zero a
+
+-- two numbers whose sum is 0 are equal
+pub ⊕-equal : (a b : ℕ) → a ⊕ b ≡ 0 → a ≡ b
+⊕-equal a b e = sym (⊕-zero a) ∙ ap (_⊕_ a) (sym e) ∙ ⊕-twice a b
+
 pub ⊕-cancel : (a b c : ℕ) → a ⊕ b ≡ a ⊕ c → b ≡ c
 ⊕-cancel a b c e = sym (⊕-twice a b) ∙ ap (_⊕_ a) e ∙ ⊕-twice a c
 

@@ -11,7 +11,7 @@ use lib.ListN.{length, getD, drop, replicate}
 use lib.Seq.{drop-cons}
 use Rattle.lists.specs.Each.{Each, Byte}
 use Rattle.gf256.specs.Byte.{_⊕_, _⊗_, power}
-use Rattle.gf256.proofs.Laws.{⊕-assoc, ⊕-left-comm, zero-⊕, ⊕-zero, ⊕-self, ⊕-twice, ⊕-byte, ⊗-assoc, ⊗-left-comm, ⊗-⊕, ⊕-⊗, ⊗-zero, zero-⊗, one-⊗, ⊗-byte, no-zero-divisors}
+use Rattle.gf256.proofs.Laws.{⊕-assoc, ⊕-left-comm, zero-⊕, ⊕-zero, ⊕-self, ⊕-equal, ⊕-byte, ⊗-assoc, ⊗-left-comm, ⊗-⊕, ⊕-⊗, ⊗-zero, zero-⊗, one-⊗, ⊗-byte, no-zero-divisors}
 use Rattle.interpolation.specs.Polynomial.{next, eval, plus, scale, linear, product}
 
 -- ---- values
@@ -70,10 +70,6 @@ pub eval-byte : (x : ℕ) (cs : List ℕ) → Each Byte cs → Byte (eval x cs)
 unfolding next eval
 eval-byte x [] h = lit< tt
 eval-byte x (c ∷ cs) h = ⊕-byte c (x ⊗ eval x cs) (h .0) (⊗-byte x (eval x cs))
-
--- two numbers whose sum is 0 are equal
-pub sum-zero : (a b : ℕ) → a ⊕ b ≡ 0 → a ≡ b
-sum-zero a b e = sym (⊕-zero a) ∙ ap (_⊕_ a) (sym e) ∙ ⊕-twice a b
 
 -- ---- sums
 
@@ -182,5 +178,5 @@ product-nonzero x hx (p ∷ ps) b n e =
     (product-nonzero x hx ps (b .1) (n .1))
   where
     split : (x ⊕ p ≡ 0) ⊎ (eval x (product ps) ≡ 0) → eval x (product ps) ≢ 0 → ⊥
-    split (inl z) rest = n .0 (sum-zero x p z)
+    split (inl z) rest = n .0 (⊕-equal x p z)
     split (inr z) rest = rest z

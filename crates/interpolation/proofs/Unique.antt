@@ -10,9 +10,9 @@ use lib.ListN.{length}
 use Rattle.lists.specs.Each.{Each, Distinct, Byte}
 use Rattle.lists.proofs.Each.{map-each, each-imp}
 use Rattle.gf256.specs.Byte.{_⊕_, _⊗_}
-use Rattle.gf256.proofs.Laws.{⊕-assoc, ⊕-left-comm, zero-⊕, ⊕-zero, ⊕-self, ⊕-twice, ⊕-byte, ⊗-left-comm, ⊗-⊕, ⊕-⊗, ⊗-zero, no-zero-divisors}
+use Rattle.gf256.proofs.Laws.{⊕-assoc, ⊕-left-comm, zero-⊕, ⊕-zero, ⊕-self, ⊕-twice, ⊕-equal, ⊕-byte, ⊗-left-comm, ⊗-⊕, ⊕-⊗, ⊗-zero, no-zero-divisors}
 use Rattle.interpolation.specs.Polynomial.{next, eval, values, plus}
-use Rattle.interpolation.proofs.Polynomial.{eval-plus, eval-byte, sum-zero, plus-byte, plus-length}
+use Rattle.interpolation.proofs.Polynomial.{eval-plus, eval-byte, plus-byte, plus-length}
 
 -- ---- division by x + p
 
@@ -63,7 +63,7 @@ quotient-root x p c cs hx hp b n ep ex =
         sym (zero-⊕ _) ∙ ap (λ (t : ℕ). t ⊕ (x ⊕ p) ⊗ eval x (quotient p cs)) (sym ep) ∙ ⊕-assoc c _ _ ∙ ap (_⊕_ c) (sym (divided x p cs)) ∙ ex
 
     split : (x ⊕ p ≡ 0) ⊎ (eval x (quotient p cs) ≡ 0) → eval x (quotient p cs) ≡ 0
-    split (inl z) = absurd (n (sym (sum-zero x p z)))
+    split (inl z) = absurd (n (sym (⊕-equal x p z)))
     split (inr z) = z
 
 -- 0 at as many distinct bytes as there are coefficients
@@ -87,7 +87,7 @@ unfolding Zeros plus
 plus-zeros [] [] n h = refl
 plus-zeros [] (d ∷ ds) n h = absurd (suc-ne-zero (length ds) (sym n))
 plus-zeros (c ∷ cs) [] n h = absurd (suc-ne-zero (length cs) n)
-plus-zeros (c ∷ cs) (d ∷ ds) n h = ap₂ _∷_ (sum-zero c d (h .0)) (plus-zeros cs ds (suc-inj n) (h .1))
+plus-zeros (c ∷ cs) (d ∷ ds) n h = ap₂ _∷_ (⊕-equal c d (h .0)) (plus-zeros cs ds (suc-inj n) (h .1))
 
 pub unique : (ps cs ds : List ℕ) → Each Byte ps → Distinct ps → Each Byte cs → Each Byte ds → length cs ≡ length ds → length cs ≤ length ps
     → values ps cs ≡ values ps ds → cs ≡ ds

@@ -1,7 +1,7 @@
 -- What holds of every scheme that the check accepts: refusal 4 is about the least common multiple, the rows of a block and of each count
 -- come out whole, and they grow as the counts fall.
 -- Assumes nothing.
-use mathlib.Core.Path.{_≡_, sym, ap, _∙_}
+use mathlib.Core.Path.{_≡_, refl, sym, ap, _∙_}
 use mathlib.Core.Bool.{false}
 use mathlib.Core.List.{List}
 use Prim.Native.Nat.{ℕ, zero, suc, _+_, _-_, _*_, _≤_, _<_, _∣_}
@@ -103,3 +103,15 @@ accepted-scheme s n r z ds e =
     let q : refusal n r z ds ≡ 0 = sym (refused-number n r z ds) ∙ ap (λ (o : Outcome). o .number) (sym e) in
     let v = ap (λ (o : Outcome). o .values) (e ∙ checked-accepted n r z ds q) in
     record { passed = q; n-is = cc v; r-is = cc v; z-is = cc v; block-is = cc v; rows-is = cc v }
+
+-- s is also the scheme of its own fields
+pub scheme-own : (s : Scheme) (n r z : ℕ) (ds : List ℕ) → SchemeIs s n r z ds → SchemeIs s (s .n) (s .r) (s .z) ds
+scheme-own s n r z ds is =
+    record {
+      passed = rw (is .n-is, is .r-is, is .z-is) (is .passed);
+      n-is = refl;
+      r-is = refl;
+      z-is = refl;
+      block-is = rw (is .z-is) (is .block-is);
+      rows-is = rw (is .n-is, is .r-is, is .z-is) (is .rows-is);
+    }

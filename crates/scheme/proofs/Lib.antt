@@ -2,6 +2,8 @@ mod BlockLength
 mod Counts
 mod Refusals
 mod Accepted
+mod Answers
+mod Parties
 mod Written
 mod Decimal
 mod SheetText

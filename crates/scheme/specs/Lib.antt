@@ -3,5 +3,6 @@ pub mod Outcome
 pub mod BlockLength
 pub mod Check
 pub mod Facts
+pub mod Readers
 pub mod Sheet
 pub mod Writing

@@ -1,7 +1,9 @@
 -- What a call answers, in document 01's terms: the number of its refusal, 0 when it is accepted, and its values, none on a refusal.
 -- Assumes nothing.
+use mathlib.Core.Bool.{Bool, cond}
 use mathlib.Core.List.{List, [], _∷_}
 use Prim.Native.Nat.{ℕ}
+use lib.Dec.{eqb}
 use Rattle.scheme.specs.declared.SchemeAnswer.{SchemeAnswer}
 use Rattle.scheme.specs.declared.SchemeAnswer.the-variants.{Accepted, Refused}
 
@@ -19,3 +21,18 @@ refused q = record { number = q; values = [] }
 abbrev pub outcome : SchemeAnswer → Outcome
 outcome (Accepted s) = accepted (s .n ∷ s .r ∷ s .z ∷ s .block ∷ s .rows ∷ [])
 outcome (Refused q) = refused q
+
+-- ---- the first refusal that applies
+
+-- a refusal's number where its condition holds, else 0
+abbrev pub when : ℕ → Bool → ℕ
+when number holds = cond holds number 0
+
+-- the first of these numbers that is not 0
+unfoldable pub firstOf : List ℕ → ℕ
+firstOf [] = 0
+firstOf (number ∷ numbers) = cond (eqb number 0) (firstOf numbers) number
+
+-- accepted with these values, unless there is a refusal
+unfoldable pub answer : ℕ → List ℕ → Outcome
+answer refusal values = cond (eqb refusal 0) (accepted values) (refused refusal)

@@ -7,13 +7,17 @@ ghost use Rattle.scheme.specs.Limits.{maxBlock, defaultN, defaultR, defa
 ghost use Rattle.scheme.specs.Outcome.{outcome};
 ghost use Rattle.scheme.specs.BlockLength.{blockLength};
 ghost use Rattle.scheme.specs.Check.{checked, countsRefused, rowsOfCount, blockCount};
+use lists::wide;
 
 pub mod limits;
 mod printing;
+mod readers;
 mod writer;
 
 pub use printing::MAX_INPUT;
 pub use printing::sheet;
+pub use readers::is_count;
+pub use readers::parties_refused;
 pub use writer::Text;
 
 // An accepted scheme: its parameters, the block length m and the rows b of a block.
@@ -115,12 +119,6 @@ pub fn block_count(block: usize, bytes: usize) -> usize
         return whole;
     }
     whole + 1
-}
-
-fn wide(x: u8) -> usize
-    ensures { λ y. ⌜ y ≡ x ⌝ }
-{
-    x as usize
 }
 
 // Does refusal 3 apply?

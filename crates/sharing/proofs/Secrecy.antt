@@ -14,21 +14,16 @@ use Rattle.scheme.specs.Check.{blockCount}
 use Rattle.scheme.proofs.Laws.{default-accepted}
 use Rattle.family.specs.Message.{Bytes}
 use Rattle.staircase.specs.Parameters.{Parameters, Accepted, Party, block, rows}
-use Rattle.staircase.specs.Shares.{staircase, shares, partOf}
+use Rattle.staircase.specs.Shares.{staircase, shares, partOf, KeyString}
 use Rattle.staircase.proofs.Hidden.{message-hidden}
-use Rattle.sharing.specs.declared.SplitAnswer.{SplitAnswer}
-use Rattle.sharing.specs.declared.SplitAnswer.the-variants.{Written, Refused}
-use Rattle.sharing.specs.Answers.{splitOutcome}
-use Rattle.sharing.specs.Split.{splitRefusal, splitAnswer, splitOutput}
-use Rattle.sharing.proofs.Dealing.{none-applies, written as written-out}
-use Rattle.sharing.specs.Secrecy.{KeyString, wanted, Secret, Secrecy, defaultParameters, Call, written, EndsAlike}
+use Rattle.staircase.proofs.WholeBlocks.{keys-number}
+use Rattle.dealer.specs.declared.SplitAnswer.{SplitAnswer}
+use Rattle.dealer.specs.declared.SplitAnswer.the-variants.{Written, Refused}
+use Rattle.dealer.specs.Split.{splitOutcome, splitRefusal, splitAnswer, splitOutput}
+use Rattle.dealer.proofs.Laws.{none-applies, written as written-out}
+use Rattle.sharing.specs.Secrecy.{wanted, Secret, Secrecy, defaultParameters, Call, written, EndsAlike}
 
 -- ---- secrecy
-
--- the keys of N blocks, in the order of the factors that document 01 writes
-pub keys-number : (p : Parameters) (N : ℕ) → N * staircase p .keys ≡ N * p .z * rows p
-unfolding staircase
-keys-number p N = ap (λ (k : ℕ). N * k) (mul-comm (rows p) (p .z)) ∙ sym (mul-assoc N (p .z) (rows p))
 
 pub secrecy : (p : Parameters) → Secrecy p
 secrecy p A first second h₁ h₂ e short parties in-range apart few =

@@ -1,10 +1,2 @@
-pub mod Answers
-pub mod Split
-pub mod Prefix
-pub mod Basis
-pub mod Reconstruct
 pub mod Secrecy
-pub mod Exactness
-pub mod Columns
-pub mod Sources
-pub mod Decoding
+pub mod RoundTrip

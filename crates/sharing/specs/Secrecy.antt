@@ -9,16 +9,10 @@ use lib.ListN.{length}
 use Rattle.lists.specs.Each.{Each, Distinct, Byte}
 use Rattle.scheme.specs.Limits.{maxMessage, defaultN, defaultR, defaultZ, defaultCounts}
 use Rattle.scheme.specs.Check.{blockCount}
-use Rattle.family.specs.Message.{Bytes}
 use Rattle.staircase.specs.Parameters.{Parameters, Accepted, Party, parameters, block, rows}
-use Rattle.staircase.specs.Shares.{partOf}
-use Rattle.sharing.specs.declared.SplitAnswer.{SplitAnswer}
-use Rattle.sharing.specs.Answers.{splitOutcome}
-use Rattle.sharing.specs.Split.{splitRefusal, splitAnswer, splitOutput}
-
--- a key string for a message of so many bytes: any N × z × b bytes
-abbrev pub KeyString : Parameters → ℕ → List ℕ → Type 0
-KeyString p message keys = Bytes (blockCount (block p) message * p .z * rows p) keys
+use Rattle.staircase.specs.Shares.{partOf, KeyString}
+use Rattle.dealer.specs.declared.SplitAnswer.{SplitAnswer}
+use Rattle.dealer.specs.Split.{splitOutcome, splitRefusal, splitAnswer, splitOutput}
 
 -- the output's length that the splitter wants for a message of so many bytes
 abbrev pub wanted : Parameters → ℕ → ℕ

@@ -8,7 +8,7 @@ use sharing::ReconstructAnswer;
 use sharing::SplitAnswer;
 
 fn main() {
-    examples();
+    two_blocks();
     small_schemes();
     orders();
     schemes_refused();
@@ -20,13 +20,10 @@ fn main() {
     openings_refused();
 }
 
-// The examples of document 01.
-fn examples() {
-    let mut out = [0u8; 6];
-    show_a(b"\x05\x07", b"\x09\x04", &mut out);
-    show_a(b"\x00\x00", b"\x1f\x0a", &mut out);
-    let mut longer = [0u8; 12];
-    show_a(b"\x05\x07\x01", b"\x09\x04\x02\x06", &mut longer);
+// Two blocks, of all parties: the share of party 1 alone would be the same if the blocks stood one after another.
+fn two_blocks() {
+    let mut out = [0u8; 12];
+    show_a(b"\x05\x07\x01", b"\x09\x04\x02\x06", &mut out);
 }
 
 // The scheme of Figure 2b, the default, one count alone, and an empty message.

@@ -11,3 +11,5 @@ pub mod Order
 pub mod OneRow
 pub mod Opening
 pub mod Exactness
+pub mod WholeBlocks
+pub mod Sizes

@@ -17,17 +17,13 @@ use Rattle.lists.proofs.Tests.{lt-or-le, cond-ind}
 use Rattle.lists.proofs.Each.{each-at, each-set, each-tabulate, getD-map}
 use Rattle.lists.proofs.Table.{length-tabulate, getD-tabulate, tabulate-same, tabulate-is}
 use Rattle.gf256.specs.Byte.{_⊕_}
-use Rattle.gf256.proofs.Laws.{⊕-assoc, ⊕-self, ⊕-zero, zero-⊕, ⊕-byte}
+use Rattle.gf256.proofs.Laws.{⊕-back, ⊕-zero, zero-⊕, ⊕-byte}
 use Rattle.interpolation.specs.Polynomial.{eval, values, plus}
 use Rattle.interpolation.specs.Interpolation.{through}
 use Rattle.interpolation.proofs.Laws.{eval-plus, eval-byte, plus-at, plus-byte, plus-length-longer, through-values, through-length, through-byte, unique}
 use Rattle.staircase.specs.Coefficients.{countOf, origin, coefficient}
 use Rattle.staircase.specs.Opening.{blockRow, upperPart, lowerPart, placed}
 use Rattle.staircase.proofs.Rows.{coefficient-byte}
-
--- what is added twice is not there
-added-twice : (a b : ℕ) → (a ⊕ b) ⊕ b ≡ a
-added-twice a b = ⊕-assoc a b b ∙ ap (_⊕_ a) (⊕-self b) ∙ ⊕-zero a
 
 -- ---- the upper part
 
@@ -123,7 +119,7 @@ module _ (m z : ℕ) (ds xs : List ℕ) (v : ℕ → ℕ → ℕ) (block : List 
         let u : ℕ = eval (getD xs a 0) (upperPart m z ds (length xs) block j) in
         eval-plus (getD xs a 0) (lowerPart m z ds xs v block j) (upperPart m z ds (length xs) block j)
         ∙ ap (λ (w : ℕ). w ⊕ u) (lower-at vb a h)
-        ∙ added-twice (v j a) u
+        ∙ ⊕-back (v j a) u
 
     -- and nothing else does
     pub lower-unique : (lower : List ℕ) → length lower ≡ length xs → Each Byte lower
@@ -141,7 +137,7 @@ module _ (m z : ℕ) (ds xs : List ℕ) (v : ℕ → ℕ → ℕ) (block : List 
         let h : a < length xs = rw (length-map xs (λ x. eval x lower)) at b in
         let x : ℕ = getD xs a 0 in
         getD-map {A = ℕ} {B = ℕ} (λ y. eval y lower) xs a 0 0 h
-        ∙ sym (added-twice (eval x lower) (eval x upper))
+        ∙ sym (⊕-back (eval x lower) (eval x upper))
         ∙ ap (λ (w : ℕ). w ⊕ eval x upper) (sym (eval-plus x lower upper) ∙ has a h)
         ∙ sym (lower-at vb a h)
         ∙ sym (getD-map {A = ℕ} {B = ℕ} (λ y. eval y found) xs a 0 0 h)))

@@ -22,6 +22,7 @@ use Rattle.scheme.specs.Check.{rowsOfCount}
 use Rattle.scheme.specs.Facts as facts
 use Rattle.staircase.specs.Rows.{rowOf, keyed, copied, withGroups, rowsOf}
 use Rattle.staircase.specs.Coefficients.{groupOf, countOf, origin, coefficient}
+use Rattle.staircase.specs.Opening.{blockRow}
 use Rattle.staircase.proofs.Groups.{count-above, counts-fall, rows-most, group-least, group-is}
 use Rattle.staircase.proofs.Origin.{origin-first, origin-falls, origin-later}
 
@@ -30,7 +31,7 @@ use Rattle.staircase.proofs.Origin.{origin-first, origin-falls, origin-
 length-keyed : (z : ℕ) (keys : List ℕ) (rests : List (List ℕ)) → length (keyed z keys rests) ≡ length rests
 unfolding keyed
 length-keyed z keys [] = refl
-length-keyed z keys (rest ∷ rests) = ap suc (length-keyed z (drop z keys) rests)
+length-keyed z keys (rest ∷ rests) = ap suc (length-keyed z _ rests)
 
 keyed-at : (z : ℕ) (keys : List ℕ) (rests : List (List ℕ)) (j : ℕ) → j < length rests
     → getD (keyed z keys rests) j [] ≡ rowOf (piece z j keys) (getD rests j [])
@@ -116,18 +117,14 @@ module _ (d above : ℕ) (rows : List (List ℕ)) (long : Each (λ row. above �
 
 -- ---- group after group
 
--- the coefficients of row j
-unfoldable rowAt : ℕ → ℕ → List ℕ → List ℕ → List ℕ → ℕ → List ℕ
-rowAt m z ds block keys j = tabulate (countOf m z ds j) (coefficient m z ds block keys j)
-
 -- these are the rows of the groups up to that of the count at place k
 record Upto (m z : ℕ) (ds block keys : List ℕ) (k : ℕ) (rows : List (List ℕ)) : Type 0 where
   number : length rows ≡ rowsOfCount m z (getD ds k 0)
-  each : (j : ℕ) → j < rowsOfCount m z (getD ds k 0) → getD rows j [] ≡ rowAt m z ds block keys j
+  each : (j : ℕ) → j < rowsOfCount m z (getD ds k 0) → getD rows j [] ≡ blockRow m z ds block keys j
 
 row-at : (m z : ℕ) (ds block keys : List ℕ) (i j : ℕ) → groupOf m z ds j ≡ i
-    → tabulate (getD ds i 0) (coefficient m z ds block keys j) ≡ rowAt m z ds block keys j
-unfolding rowAt countOf
+    → tabulate (getD ds i 0) (coefficient m z ds block keys j) ≡ blockRow m z ds block keys j
+unfolding blockRow countOf
 row-at m z ds block keys i j e = rw e
 
 module _ (n r z : ℕ) (ds : List ℕ) (m b : ℕ) (A : facts.Accepted n r z ds m b) (block keys : List ℕ) (whole : length block ≡ m)
@@ -136,7 +133,7 @@ module _ (n r z : ℕ) (ds : List ℕ) (m b : ℕ) (A : facts.Accepted n r z ds 
   enough-for p l = omega (arith, mul-le-mul-right z l)
 
   first-row : (d P j : ℕ) → d ≡ getD ds 0 0 → P ≡ rowsOfCount m z d → j < P
-      → getD (keyed z keys (pieces P (d - z) block)) j [] ≡ rowAt m z ds block keys j
+      → getD (keyed z keys (pieces P (d - z) block)) j [] ≡ blockRow m z ds block keys j
   first-row d P j d-is P-is h =
       let own : j < rowsOfCount m z (getD ds 0 0) = rw (P-is, d-is) at h in
       let high : z < d = rw d-is (count-above n r z ds m b A 0 (A .some)) in
@@ -162,11 +159,11 @@ module _ (n r z : ℕ) (ds : List ℕ) (m b : ℕ) (A : facts.Accepted n r z ds 
     number-is : length before ≡ P
     number-is = u .number ∙ sym (P-is ∙ ap (rowsOfCount m z) above-is)
 
-    earlier : (j : ℕ) → j < P → getD before j [] ≡ rowAt m z ds block keys j
+    earlier : (j : ℕ) → j < P → getD before j [] ≡ blockRow m z ds block keys j
     earlier j h = u .each j (rw (P-is, above-is) at h)
 
     long : Each (λ row. above ≤ length row) before
-    unfolding rowAt countOf
+    unfolding blockRow countOf
     long =
         each-of (λ row. above ≤ length row) before []
         (λ j h.
@@ -187,7 +184,7 @@ module _ (n r z : ℕ) (ds : List ℕ) (m b : ℕ) (A : facts.Accepted n r z ds 
     -- entry q of the copied list is the coefficient of degree e of row j
     copy-home : (j e q : ℕ) → P ≤ j → j < Q → z ≤ e → e < d → q ≡ (j - P) * (d - z) + (e - z)
         → getD (copied d above before) q 0 ≡ getD block (origin m z ds j e) 0
-    unfolding rowAt
+    unfolding blockRow
     copy-home j e q past h low high q-is =
         let back : above ≡ getD ds (k + 1 - 1) 0 = above-is ∙ ap (λ (x : ℕ). getD ds x 0) (omega arith) in
         let at : q ≡ (j - rowsOfCount m z above) * (d - z) + (e - z) = rw (← P-is) q-is in
@@ -202,7 +199,7 @@ module _ (n r z : ℕ) (ds : List ℕ) (m b : ℕ) (A : facts.Accepted n r z ds 
         (sym (origin-later n r z ds m b A j e (k + 1) d above q (omega (arith, most)) (sym (group-next j past h)) (omega arith) d-is back at high))
 
     new-row : (j : ℕ) → P ≤ j → j < Q
-        → getD (keyed z (drop (P * z) keys) (pieces (Q - P) (d - z) (copied d above before))) (j - P) [] ≡ rowAt m z ds block keys j
+        → getD (keyed z (drop (P * z) keys) (pieces (Q - P) (d - z) (copied d above before))) (j - P) [] ≡ blockRow m z ds block keys j
     new-row j past h =
         let high : z < d = rw d-is (count-above n r z ds m b A (k + 1) more) in
         let at : P + (j - P) ≡ j = omega arith in
@@ -263,13 +260,13 @@ rows-begin m z (d ∷ ds) block keys h = refl
 
 pub rows-are : (n r z : ℕ) (ds : List ℕ) (m b : ℕ) → facts.Accepted n r z ds m b → (block keys : List ℕ) → length block ≡ m → length keys ≡ b * z
     → rowsOf m z ds block keys ≡ tabulate b (λ j. tabulate (countOf m z ds j) (coefficient m z ds block keys j))
-unfolding rowAt
+unfolding blockRow
 rows-are n r z ds m b A block keys whole enough =
     let u = rest-groups n r z ds m b A block keys whole enough (drop 1 ds) 0 (A .some) refl
     (keyed z keys (pieces (rowsOfCount m z (getD ds 0 0)) (getD ds 0 0 - z) block)) (first-group n r z ds m b A block keys whole enough) in
     rows-begin m z ds block keys (A .some)
     ∙ tabulate-is (withGroups m z keys (getD ds 0 0) (keyed z keys (pieces (rowsOfCount m z (getD ds 0 0)) (getD ds 0 0 - z) block)) (drop 1 ds))
-    b (rowAt m z ds block keys) [] (u .number ∙ A .last-rows) (λ j h. u .each j (rw (A .last-rows) h))
+    b (blockRow m z ds block keys) [] (u .number ∙ A .last-rows) (λ j h. u .each j (rw (A .last-rows) h))
 
 pub rows-number : (n r z : ℕ) (ds : List ℕ) (m b : ℕ) → facts.Accepted n r z ds m b → (block keys : List ℕ) → length block ≡ m → length keys ≡ b * z
     → length (rowsOf m z ds block keys) ≡ b

@@ -4,3 +4,4 @@ pub mod Coefficients
 pub mod Shares
 pub mod Mask
 pub mod Opening
+pub mod Exactness

@@ -6,7 +6,7 @@ use lib.ListN.{length}
 use Rattle.interpolation.specs.Polynomial.{eval}
 use Rattle.lists.specs.Table.{piece}
 use Rattle.scheme.specs.Check.{blockCount}
-use Rattle.family.specs.Message.{padded}
+use Rattle.family.specs.Message.{Bytes, padded}
 use Rattle.family.specs.Family.{Family, sharesOfBlocks}
 use Rattle.staircase.specs.Parameters.{Parameters, block, rows, point}
 use Rattle.staircase.specs.Rows.{rowsOf}
@@ -28,3 +28,7 @@ shares p message keys = sharesOfBlocks (staircase p) (p .n) (blockCount (block p
 -- party s's bytes, b × N of them, in what the splitter writes for N blocks
 unfoldable pub partOf : Parameters → ℕ → ℕ → List ℕ → List ℕ
 partOf p N s output = piece (rows p * N) (s - 1) output
+
+-- a key string for a message of so many bytes: any N × z × b bytes
+abbrev pub KeyString : Parameters → ℕ → List ℕ → Type 0
+KeyString p message keys = Bytes (blockCount (block p) message * p .z * rows p) keys

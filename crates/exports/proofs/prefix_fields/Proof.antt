@@ -2,7 +2,7 @@
 -- Assumes nothing.
 use mathlib.Core.Path.{sym, ap}
 use borrow.Author.Needs.{needs}
-use Rattle.sharing.specs.Answers.{prefixOutcome}
+use Rattle.party.specs.Prefix.{prefixOutcome}
 use Rattle.exports.specs.Fields.{valueFields}
 use Rattle.exports.proofs.prefix_fields.Statement.{statement}
 use Rattle.exports.proofs.prefix_fields.Tie as tie

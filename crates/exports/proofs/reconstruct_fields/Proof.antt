@@ -2,7 +2,7 @@
 -- Assumes nothing.
 use mathlib.Core.Path.{sym, ap}
 use borrow.Author.Needs.{needs}
-use Rattle.sharing.specs.Answers.{reconstructOutcome}
+use Rattle.reader.specs.Reconstruct.{reconstructOutcome}
 use Rattle.exports.specs.Fields.{valueFields}
 use Rattle.exports.proofs.reconstruct_fields.Statement.{statement}
 use Rattle.exports.proofs.reconstruct_fields.Tie as tie

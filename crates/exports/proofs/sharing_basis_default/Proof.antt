@@ -3,7 +3,7 @@
 use mathlib.Core.Path.{ap, _∙_}
 use borrow.Author.Needs.{needs}
 use Rattle.scheme.specs.Outcome.{Outcome}
-use Rattle.sharing.proofs.Laws.{basis-number}
+use Rattle.reader.proofs.Laws.{basis-number}
 use Rattle.exports.specs.Fields.{flattened}
 use Rattle.exports.proofs.sharing_basis_default.Statement.{statement}
 use Rattle.exports.proofs.sharing_basis_default.Tie as tie

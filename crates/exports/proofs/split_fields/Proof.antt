@@ -2,7 +2,7 @@
 -- Assumes nothing.
 use mathlib.Core.Path.{sym, ap}
 use borrow.Author.Needs.{needs}
-use Rattle.sharing.specs.Answers.{splitOutcome}
+use Rattle.dealer.specs.Split.{splitOutcome}
 use Rattle.exports.specs.Fields.{valueFields}
 use Rattle.exports.proofs.split_fields.Statement.{statement}
 use Rattle.exports.proofs.split_fields.Tie as tie

@@ -1,0 +1,4 @@
+mod Gathered
+mod FirstColumns
+mod Runs
+pub mod Laws

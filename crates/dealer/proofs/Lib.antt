@@ -1,0 +1,5 @@
+mod Strips
+mod Put
+mod Runs
+mod Dealing
+pub mod Laws

@@ -1,0 +1,66 @@
+-- `dealer::shares::column_of` meets its contract: below z and from z up the column is gathered from its place on. The places fit in a word
+-- since the scheme's numbers are small.
+-- Assumes nothing.
+use Prim.Native.Nat.{_+_, _*_, _≤_, _<_}
+use native.Mathlib.Nat.{mul-le-mul}
+use native.Mathlib.Omega.{arith}
+use borrow.Author.Needs.{needs}
+use borrow.Author.Tests.{lt-ltb, le-ltb}
+use Rattle.dealer.specs.Columns.{column}
+use Rattle.dealer.proofs.shares.column_of.Statement.{statement}
+use Rattle.dealer.proofs.shares.column_of.Tie as tie
+
+-- the entry
+abbrev start : tie.After-wide → tie.Start
+start c = c .before .before .before
+
+-- the places, in products of small numbers
+module _ (c : tie.After-wide) where
+  low : c .wide .result ≤ 16
+  low = omega (arith, c .wide .ensures, start c .pre .2)
+
+  rows-before : start c .args .t * start c .args .s .rows ≤ 13762560
+  rows-before = mul-le-mul (start c .pre .3) (start c .pre .1)
+
+  keys-before : (start c .args .t * start c .args .s .rows + start c .args .j) * c .wide .result ≤ 220214400
+  keys-before =
+      let h : start c .args .t * start c .args .s .rows + start c .args .j ≤ 13763400 = omega (arith, rows-before, start c .pre .4, start c .pre .1) in
+      mul-le-mul h low
+
+  keys-apart : start c .args .s .rows * c .wide .result ≤ 13440
+  keys-apart = mul-le-mul (start c .pre .1) low
+
+  bytes-before : start c .args .t * start c .args .s .block ≤ 13762560
+  bytes-before = mul-le-mul (start c .pre .3) (start c .pre .0)
+
+-- from z up
+from : (c : tie.Else1) → start (c .before) .args .s .z ≤ start (c .before) .args .e
+from c = omega (arith, c .before .wide .ensures, c .if1 .left)
+
+-- the place lies in the block
+inside : (c : tie.Else1) → start (c .before) .args .place < 840
+inside c =
+    let p = start (c .before) .pre in
+    omega (arith, p .0, p .6 (from c))
+
+pub column-of-spec : {M : Type 1} → statement M
+unfolding column
+column-of-spec =
+    tie.close
+    (tie.spec
+    (λ c κs. search needs)
+    (λ c. omega (arith, rows-before (c .before)))
+    (λ c. omega (arith, rows-before (c .before)))
+    (λ c. omega (arith, keys-before (c .before)))
+    (λ c. omega (arith, keys-before (c .before)))
+    (λ c. omega (arith, keys-apart (c .before)))
+    (λ c κs. omega (arith, keys-before (c .before), keys-apart (c .before)))
+    (λ c ds o.
+    let w = c .before .before in
+    rw (← w .wide .ensures, lt-ltb (start w .args .e) (w .wide .result) (c .before .if1 .taken)) (c .gather .ensures))
+    (λ c. omega (arith, bytes-before (c .before)))
+    (λ c. omega (arith, bytes-before (c .before), inside c))
+    (λ c κs. omega (arith, bytes-before (c .before), inside c))
+    (λ c ds o.
+    let w = c .before .before in
+    rw (← o (from (c .before)), ← w .wide .ensures, le-ltb (start w .args .e) (w .wide .result) (c .before .if1 .left)) (c .gather2 .ensures)))

@@ -1,0 +1,173 @@
+-- `dealer::shares::fill_shares` meets its contract. The invariants: in each share the first q bytes are written, those of all rows before j,
+-- and in the inner loop those of row j in the first t blocks. The measures are what is left of the rows and of the blocks.
+-- Assumes nothing.
+use mathlib.Core.Path.{_≡_, sym, ap, _∙_}
+use Prim.Native.Nat.{ℕ, _+_, _-_, _*_, _≤_, _<_}
+use native.Mathlib.Nat.{zero-mul, mul-le-mul}
+use native.Mathlib.Omega.{arith}
+use lib.ListN.{take}
+use mir.Syntax.{w8}
+use denote.Plain.{UInt}
+use denote.Array.{Array}
+use borrow.Author.Needs.{needs}
+use Rattle.lists.specs.Table.{tabulate, joined}
+use Rattle.lists.proofs.Arrays.{any-length}
+use Rattle.lists.proofs.Joined.{row-room}
+use Rattle.lists.proofs.Columns.{Columns, columns-none, columns-all}
+use Rattle.gf256.specs.Lanes.{lanes}
+use Rattle.columns.proofs.Laws.{run-fits}
+use Rattle.interpolation.specs.Interpolation.{side}
+use Rattle.scheme.specs.Facts as facts
+use Rattle.staircase.specs.Coefficients.{shareByte}
+use Rattle.rows.specs.Sources.{RowOrigins}
+use Rattle.rows.proofs.Scheme.{facts-of, rows-high, row-count-high}
+use Rattle.rows.proofs.Laws.{row-origins}
+use Rattle.dealer.proofs.Strips.{strip-columns}
+use Rattle.dealer.proofs.Runs.{run-byte}
+use Rattle.dealer.proofs.shares.fill_shares.Statement.{statement}
+use Rattle.dealer.proofs.shares.fill_shares.Tie as tie
+
+abbrev Inv-run : tie.InvT-run
+Inv-run s counts blocks message keys out₀ n rows share q₀ j d places t₀ out q t =
+    (t ≤ blocks) × (q ≡ j * blocks + t) × Columns (λ a. shareByte (s .block) (s .rows) (s .z) counts message keys blocks (a + 1)) n share q out
+
+abbrev μ-run : tie.MeasureT-run
+μ-run s counts blocks message keys out₀ n rows share q₀ j d places t₀ out q t = blocks - t
+
+abbrev Inv-row : tie.InvT-row
+Inv-row s counts blocks message keys out₀ n rows share q₀ j₀ out q j =
+    (j ≤ rows) × (q ≡ j * blocks) × Columns (λ a. shareByte (s .block) (s .rows) (s .z) counts message keys blocks (a + 1)) n share q out
+
+abbrev μ-row : tie.MeasureT-row
+μ-row s counts blocks message keys out₀ n rows share q₀ j₀ out q j = rows - j
+
+-- the entry, the row and the entry of a run
+abbrev start : tie.After-wide Inv-run μ-run Inv-row μ-row → tie.Start Inv-run μ-run Inv-row μ-row
+start c = c .before .before .before .before .before
+
+abbrev row-of : tie.In-run Inv-run μ-run Inv-row μ-row → tie.In-row Inv-run μ-run Inv-row μ-row
+row-of c = c .before .before .before .before
+
+abbrev first : tie.In-run Inv-run μ-run Inv-row μ-row → tie.Start Inv-run μ-run Inv-row μ-row
+first c = start (row-of c .before .before)
+
+-- byte i of share a, counted from 0
+abbrev rule : tie.Start Inv-run μ-run Inv-row μ-row → ℕ → ℕ → ℕ
+rule s = λ a.
+    let x = s .args in
+    shareByte (x .s .block) (x .s .rows) (x .s .z) (x .counts .now) (x .message .now) (x .keys .now) (x .blocks) (a + 1)
+
+-- the numbers of an accepted scheme
+module _ (s : tie.Start Inv-run μ-run Inv-row μ-row) where
+  known : facts.Accepted (s .args .s .n) (s .args .s .r) (s .args .s .z) (s .args .counts .now) (s .args .s .block) (s .args .s .rows)
+  known = facts-of (s .args .s) (s .args .counts .now) (s .pre .0)
+
+  few-rows : s .args .s .rows ≤ 840
+  few-rows = omega (arith, rows-high (s .args .s) (s .args .counts .now) (s .pre .0), known .limit)
+
+  small : s .args .s .rows * s .args .blocks ≤ 13762560
+  small = mul-le-mul few-rows (s .pre .1)
+
+-- a row has at most 16 coefficients
+few : (c : tie.After-count-of Inv-run μ-run Inv-row μ-row) → c .count-of .result ≤ side
+few c =
+    let s = start (c .before .before .before) in
+    omega (arith, c .count-of .ensures, row-count-high (s .args .s) (s .args .counts .now) (s .pre .0) (c .before .before .row .j) (c .before .row-test .taken))
+
+-- the places are the origins of the row's coefficients
+origins-of : (c : tie.After-row-origins Inv-run μ-run Inv-row μ-row)
+    → let a = start (c .before .before .before .before) .args in
+    RowOrigins (a .s .block) (a .s .z) (a .counts .now) (c .before .before .before .row .j) (c .before .count-of .result) (c .row-origins .result)
+origins-of c =
+    let s = start (c .before .before .before .before) in
+    rw (c .row-origins .ensures, c .before .count-of .ensures)
+    (row-origins (s .args .s) (s .args .counts .now) (s .pre .0) (c .before .before .before .row .j) (c .before .before .row-test .taken))
+
+-- a run has at most 64 blocks, of those that are left
+run : (c : tie.After-run-of Inv-run μ-run Inv-row μ-row)
+    → let left = first (c .before) .args .blocks - c .before .before .run .t in
+    (c .run-of .result ≤ lanes) × (c .run-of .result ≤ left) × (0 < left → 0 < c .run-of .result)
+run c = run-fits _ _ (c .run-of .ensures)
+
+-- a run stays in its row, and so in the share
+within : (c : tie.After-run-of Inv-run μ-run Inv-row μ-row)
+    → c .before .before .run .q + c .run-of .result ≤ first (c .before) .args .s .rows * first (c .before) .args .blocks
+within c =
+    let a = first (c .before) .args in
+    let r = row-of (c .before) in
+    omega (arith, c .before .before .run .inv, run c .1, row-room (r .before .row .j) (a .s .rows) (a .blocks) (r .row-test .taken))
+
+pub fill-shares-spec : {M : Type 1} → statement M
+fill-shares-spec =
+    tie.close
+    (tie.spec Inv-run μ-run Inv-row μ-row
+    (λ c κs. search needs)
+    (λ c. omega (arith, small (start c)))
+    (λ c.
+    let s = start c in
+    (search needs, sym (zero-mul (s .args .blocks)), columns-none (rule s) _ _ _ (rw (c .wide .ensures) (s .pre .2))))
+    (λ c κs. search needs)
+    (λ c κs. search needs)
+    (λ c. (search needs, omega (arith, c .before .before .before .row .inv .1), c .before .before .before .row .inv .2))
+    (λ c. search needs)
+    (λ c κs. search needs)
+    (λ c κs.
+    let i = c .before .before in
+    let s = first i in
+    let o = i .before .before in
+    let p = known s in
+    let origins = origins-of o in
+    (p .limit, few-rows s, omega (arith, p .sizes), omega arith, row-of i .row-test .taken, few (o .before), origins .long, origins .below))
+    (λ c κs.
+    let o = c .before .before in
+    let a = o .before .before in
+    let i = a .before in
+    let s = first i in
+    let w = row-of i .before .before in
+    let n-most : w .wide .result < 256 = omega (arith, w .wide .ensures, known s .sizes) in (
+      omega (arith, few (i .before .before .before)),
+      any-length (Array (UInt w8) lanes) side (o .row-columns .result) _ (o .row-columns .ok),
+      n-most,
+      run a .0,
+      omega (arith, within a),
+      i .before .run .inv .2 .long,
+    ))
+    (λ c.
+    let a = c .before .before .before .before .before .before .before in
+    omega (arith, within a, small (first (a .before))))
+    (λ c. search needs)
+    (λ c.
+    let a = c .before .before .before .before .before .before .before in
+    let h : 0 < a .run-of .result = run a .2 (omega arith) in
+    omega arith)
+    (λ c.
+    let f = c .before .before in
+    let o = f .before .before .before in
+    let a = o .before .before in
+    let i = a .before in
+    let l = i .before .run in
+    let r = row-of i in
+    let g = i .before .before in
+    let x = first i .args in (
+      omega (arith, run a .1),
+      omega (arith, l .inv .1),
+      strip-columns {f = rule (first i)} (l .inv .2) (f .fill-parties .ensures)
+          (λ b k hb hk.
+          run-byte (x .s .block) (x .s .rows) (x .s .z) (x .counts .now) (x .message .now) (x .keys .now) (x .blocks) (g .before .count-of .result)
+          (r .before .row .j) (l .t) (l .q) (b + 1) k (take (g .before .count-of .result) (o .row-columns .result))
+          (omega (arith, run a .0)) (omega (arith, run a .1)) (l .inv .1) (g .before .count-of .ensures)
+          (o .row-columns .ensures (x .counts .now) (origins-of g))),
+    ))
+    (λ c. search needs)
+    (λ c. search needs)
+    (λ c. search needs)
+    (λ c.
+    let w = c .before .before in
+    let s = start w in
+    c .before .row .inv .2 .long ∙ sym (rw (w .wide .ensures) (s .pre .2)))
+    (λ c.
+    let w = c .before .before in
+    let x = start w .args in
+    let h : c .before .row .j ≡ x .s .rows = omega arith in
+    columns-all {f = rule (start w)} (c .before .row .inv .2) (omega (arith, ap (λ (n : ℕ). n * x .blocks) h))
+    ∙ ap (λ (n : ℕ). joined n (λ a. tabulate (x .s .rows * x .blocks) (rule (start w) a))) (w .wide .ensures)))

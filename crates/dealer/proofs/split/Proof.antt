@@ -1,0 +1,86 @@
+-- `dealer::split` meets its contract: each way out has its law in proofs/Dealing.antt, and the products fit since the scheme is
+-- accepted and the message is not too long.
+-- Assumes nothing.
+use mathlib.Core.Path.{sym, ap, _∙_}
+use native.Mathlib.Omega.{arith}
+use Rattle.scheme.specs.Outcome.{outcome}
+use Rattle.scheme.specs.Facts.{SchemeIs}
+use Rattle.scheme.proofs.Laws.{accepted-scheme, scheme-own}
+use Rattle.staircase.proofs.Sizes.{blocks-few, share-small}
+use Rattle.dealer.proofs.Dealing.{scheme-refuses, message-long, other-keys, other-output, refuses, keys-length, output-length, output-parts, keys-part, keys-whole, output-part, output-whole, deals}
+use borrow.Author.Needs.{needs}
+use Rattle.dealer.proofs.split.Statement.{statement}
+use Rattle.dealer.proofs.split.Tie as tie
+
+-- past the let-else: what holds of the accepted scheme
+scheme-of : (c : tie.After-known-told)
+    → let a = c .before .before .before .before .before .before .before .before .args in
+    SchemeIs (c .before .answer .given .0 .0) (a .n) (a .r) (a .z) (a .counts .now)
+scheme-of c = accepted-scheme _ _ _ _ _ (sym (ap outcome (c .before .answer .given .1)) ∙ c .before .before .before .check .ensures)
+
+pub split-spec : {M : Type 1} → statement M
+split-spec =
+    tie.close
+    (tie.spec
+    (λ c κs. search needs)
+    (λ c. search needs)
+    (λ c. search needs)
+    (λ c κs. search needs)
+    (λ c.
+    let k = c .before .before .before in
+    let told = c .before .enum-told .given .1 in
+    refuses _ _ _ _ _ (scheme-refuses _ _ _ _ _ _ _ (k .check .ensures) told (c .refusal .ensures)))
+    (λ c. refuses _ _ _ _ _ (message-long _ (scheme-of (c .before) .passed) _ _ _ (c .if1 .taken)))
+    (λ c κs. search needs)
+    (λ c κs. search needs)
+    (λ c.
+    let b = c .before in
+    let is = scheme-of (b .before .before) in
+    omega (arith, keys-part _ _ is _ _ _ (b .block-count .ensures) (b .before .if1 .left) (c .wide .ensures)))
+    (λ c.
+    let b = c .before .before in
+    let is = scheme-of (b .before .before) in
+    omega (arith, keys-whole _ _ is _ _ _ (b .block-count .ensures) (b .before .if1 .left) (c .before .wide .ensures)))
+    (λ c.
+    let b = c .before .before .before in
+    let is = scheme-of (b .before .before) in
+    let long = keys-length _ _ is _ _ _ (b .block-count .ensures) (c .before .before .wide .ensures) in
+    refuses _ _ _ _ _ (other-keys _ (is .passed) _ _ _ (b .before .if1 .left) (λ e. omega arith)))
+    (λ c κs. search needs)
+    (λ c.
+    let b = c .before .before .before .before in
+    let is = scheme-of (b .before .before) in
+    omega (arith, output-part _ _ is _ _ _ (b .block-count .ensures) (b .before .if1 .left) (c .wide2 .ensures)))
+    (λ c.
+    let b = c .before .before .before .before .before in
+    let is = scheme-of (b .before .before) in
+    omega (arith, output-whole _ _ is _ _ _ (b .block-count .ensures) (b .before .if1 .left) (c .before .wide2 .ensures)))
+    (λ c.
+    let k = c .before .before .before in
+    let b = k .before .before .before in
+    let is = scheme-of (b .before .before) in
+    let enough = k .if2 .left ∙ keys-length _ _ is _ _ _ (b .block-count .ensures) (k .before .before .wide .ensures) in
+    let long = output-length _ _ is _ _ _ (b .block-count .ensures) (c .before .before .wide2 .ensures) in
+    refuses _ _ _ _ _ (other-output _ (is .passed) _ _ _ (b .before .if1 .left) enough (λ e. omega arith)))
+    (λ c κs.
+    let o = c .before in
+    let b = o .before .before .before .before .before .before in
+    let is = scheme-of (b .before .before) in (
+      scheme-own _ _ _ _ _ is,
+      blocks-few _ _ is _ _ (b .block-count .ensures) (b .before .if1 .left),
+      o .if3 .left ∙ output-parts _ _ is _ _ _ (b .block-count .ensures) (o .before .before .wide2 .ensures),
+    ))
+    (λ c.
+    let o = c .before .before .before .before .before in
+    let b = o .before .before .before .before .before .before in
+    omega (arith, share-small _ _ (scheme-of (b .before .before)) _ _ (b .block-count .ensures) (b .before .if1 .left)))
+    (λ c. search needs)
+    (λ c.
+    let f = c .before .before .before in
+    let o = f .before .before in
+    let k = o .before .before .before in
+    let b = k .before .before .before in
+    let is = scheme-of (b .before .before) in
+    let enough = k .if2 .left ∙ keys-length _ _ is _ _ _ (b .block-count .ensures) (k .before .before .wide .ensures) in
+    let room = o .if3 .left ∙ output-length _ _ is _ _ _ (b .block-count .ensures) (o .before .before .wide2 .ensures) in
+    deals _ _ is _ _ _ _ (b .block-count .ensures) (b .before .if1 .left) enough room _ (f .fill-shares .ensures)))

@@ -1,0 +1,39 @@
+-- The splitter: its answer, which only the scheme and the three lengths decide, and its output.
+-- Assumes nothing.
+use mathlib.Core.Bool.{cond, not}
+use mathlib.Core.List.{List, [], _∷_}
+use Prim.Native.Nat.{ℕ, _*_}
+use lib.Dec.{ltb, eqb}
+use lib.ListN.{length}
+use Rattle.scheme.specs.Limits.{maxMessage}
+use Rattle.scheme.specs.Outcome.{Outcome, accepted, refused, when, firstOf, answer}
+use Rattle.scheme.specs.Check.{refusal, blockCount}
+use Rattle.staircase.specs.Parameters.{Parameters, block, rows}
+use Rattle.staircase.specs.Shares.{shares}
+use Rattle.dealer.specs.declared.SplitAnswer.{SplitAnswer}
+use Rattle.dealer.specs.declared.SplitAnswer.the-variants.{Written, Refused}
+
+-- the cases of the answer: the bytes of a share
+abbrev pub splitOutcome : SplitAnswer → Outcome
+splitOutcome (Written bytes) = accepted (bytes ∷ [])
+splitOutcome (Refused number) = refused number
+
+-- the first refusal that applies to a message, keys and an output of so many bytes
+unfoldable pub splitRefusal : Parameters → ℕ → ℕ → ℕ → ℕ
+splitRefusal p message keys out =
+    let N : ℕ = blockCount (block p) message in
+    firstOf
+    (refusal (p .n) (p .r) (p .z) (p .counts)
+    ∷ when 5 (ltb maxMessage message)
+    ∷ when 8 (not (eqb keys (N * p .z * rows p)))
+    ∷ when 10 (not (eqb out (p .n * N * rows p)))
+    ∷ [])
+
+-- accepted: the bytes of a share, N × b
+unfoldable pub splitAnswer : Parameters → ℕ → ℕ → ℕ → Outcome
+splitAnswer p message keys out = answer (splitRefusal p message keys out) (blockCount (block p) message * rows p ∷ [])
+
+-- the output after the call: all shares, or what it held before where the call is refused
+unfoldable pub splitOutput : Parameters → List ℕ → List ℕ → List ℕ → List ℕ
+splitOutput p message keys before =
+    cond (eqb (splitRefusal p (length message) (length keys) (length before)) 0) (shares p message keys) before

@@ -1,0 +1,97 @@
+// The splitter's outer loops: row after row, in each row the blocks in runs of at most 64, and of each run
+// the row's coefficients, gathered once for all parties. Where the coefficients of a row stand is found once
+// a row. No branch and no place depends on a byte of the message or of the keys.
+ghost use mathlib.Core.Path.{_≡_};
+ghost use mathlib.Core.List.{List};
+ghost use Prim.Native.Nat.{ℕ, _*_, _+_, _≤_, _<_};
+ghost use lib.ListN.{length, take, getD};
+ghost use Rattle.lists.specs.Table.{tabulate, joined};
+ghost use Rattle.gf256.specs.Lanes.{lanes};
+ghost use Rattle.interpolation.specs.Interpolation.{side};
+ghost use Rattle.scheme.specs.Facts.{SchemeIs};
+ghost use Rattle.scheme.specs.Limits.{maxParties, maxBlock, maxMessage};
+ghost use Rattle.staircase.specs.Coefficients.{origin, shareByte};
+ghost use Rattle.dealer.specs.Columns.{column};
+ghost use Rattle.rows.specs.Sources.{RowOrigins};
+use crate::parties::fill_parties;
+use gf256::lanes::LANES;
+use interpolation::SIDE;
+use lists::wide;
+use scheme::Scheme;
+
+// The coefficients of degree e of row j in 64 blocks from t on: key bytes below z, else the message bytes
+// at the coefficient's place in a block.
+fn column_of(
+    s: Scheme,
+    place: usize,
+    message: &[u8],
+    keys: &[u8],
+    t: usize,
+    j: usize,
+    e: usize,
+) -> [u8; LANES]
+    requires { ⌜ (s .block ≤ maxBlock) × (s .rows ≤ maxBlock) × (s .z ≤ maxParties) × (t ≤ maxMessage) × (j < s .rows) × (e < side) × (s .z ≤ e → place < s .block) ⌝ }
+    ensures { λ r. ⌜ ((ds : List ℕ) → (s .z ≤ e → place ≡ origin (s .block) (s .z) ds j e) → r ≡ column (s .block) (s .rows) (s .z) ds (now (message .entry)) (now (keys .entry)) t j e) ⌝ }
+{
+    let block = s.block;
+    let rows = s.rows;
+    let z = wide(s.z);
+    if e < z {
+        return columns::gather(keys, (t * rows + j) * z + e, rows * z);
+    }
+    columns::gather(message, t * block + place, block)
+}
+
+// The columns of row j in 64 blocks from t on, one for each of its d coefficients, and zeros after them.
+fn row_columns(
+    s: Scheme,
+    places: &[usize; SIDE],
+    message: &[u8],
+    keys: &[u8],
+    t: usize,
+    j: usize,
+    d: usize,
+) -> [[u8; LANES]; SIDE]
+    requires { ⌜ (s .block ≤ maxBlock) × (s .rows ≤ maxBlock) × (s .z ≤ maxParties) × (t ≤ maxMessage) × (j < s .rows) × (d ≤ side) × (length (now places) ≡ side) × ((e : ℕ) → s .z ≤ e → e < d → getD (now places) e 0 < s .block) ⌝ }
+    ensures { λ r. ⌜ ((ds : List ℕ) → RowOrigins (s .block) (s .z) ds j d (now (places .entry)) → take d r ≡ tabulate d (column (s .block) (s .rows) (s .z) ds (now (message .entry)) (now (keys .entry)) t j)) ⌝ }
+{
+    let mut columns = [[0u8; LANES]; SIDE];
+    let mut e = 0;
+    while e < d {
+        columns[e] = column_of(s, places[e], message, keys, t, j, e);
+        e += 1;
+    }
+    columns
+}
+
+// Writes all shares: byte j × blocks + t of each is the value of row j of block t.
+pub(crate) fn fill_shares(
+    s: Scheme,
+    counts: &[u8],
+    blocks: usize,
+    message: &[u8],
+    keys: &[u8],
+    out: &mut [u8],
+)
+    requires { ⌜ SchemeIs s (s .n) (s .r) (s .z) (now counts) × (blocks ≤ maxMessage) × (length (now out) ≡ s .n * (s .rows * blocks)) ⌝ }
+    ensures { λ _. ⌜ now (out .exit) ≡ joined (s .n) (λ a. tabulate (s .rows * blocks) (shareByte (s .block) (s .rows) (s .z) (now (counts .entry)) (now (message .entry)) (now (keys .entry)) blocks (a + 1))) ⌝ }
+{
+    let n = wide(s.n);
+    let rows = s.rows;
+    let share = rows * blocks;
+    let mut q = 0;
+    let mut j = 0;
+    'row: while j < rows {
+        let d = rows::count_of(s.block, s.z, counts, j);
+        let places = rows::row_origins(s.block, s.z, counts, j);
+        let mut t = 0;
+        'run: while t < blocks {
+            let many = columns::run_of(blocks - t);
+            let columns = row_columns(s, &places, message, keys, t, j, d);
+            fill_parties(&columns, d, n, share, q, many, out);
+            q += many;
+            t += many;
+        }
+        j += 1;
+    }
+}

@@ -1,0 +1,48 @@
+// Runs the examples of document 01 through the public functions, and prints a line for each: those without a
+// star, which no theorem has, and those with one too. The file `stdout` is written from the document.
+mod lengths;
+mod openings;
+mod printing;
+mod schemes;
+mod shares;
+
+use libc::STDOUT_FILENO;
+
+fn main() {
+    products();
+    inverse();
+    schemes::scheme_a();
+    shares::rows();
+    shares::of_scheme_a();
+    openings::of_three();
+    openings::of_two();
+    shares::the_same_share();
+    shares::two_blocks();
+    schemes::limits();
+    schemes::two_parties();
+    lengths::longest();
+    lengths::too_long();
+}
+
+fn products() {
+    print_product(0x57, 0x83);
+    print_product(0x57, 0x13);
+}
+
+fn print_product(a: u8, b: u8) {
+    io::print_hex(STDOUT_FILENO, a as u64, 2);
+    io::write_all(STDOUT_FILENO, b" * ");
+    io::print_hex(STDOUT_FILENO, b as u64, 2);
+    print_hex_result(gf256::mul(a, b));
+}
+
+fn inverse() {
+    io::write_all(STDOUT_FILENO, b"inverse of 02");
+    print_hex_result(gf256::inverse(2));
+}
+
+fn print_hex_result(result: u8) {
+    io::write_all(STDOUT_FILENO, b" = ");
+    io::print_hex(STDOUT_FILENO, result as u64, 2);
+    io::write_all(STDOUT_FILENO, b"\n");
+}

@@ -1,0 +1,11 @@
+mod BasisAnswers
+mod BasisTable
+mod Writes
+mod Readings
+mod RowStep
+mod LaterRows
+mod RowOrder
+mod GroupOrder
+mod Reading
+mod OpenerAnswers
+pub mod Laws

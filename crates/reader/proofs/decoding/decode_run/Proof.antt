@@ -1,0 +1,136 @@
+-- `reader::decoding::decode_run` meets its contract. The invariant: the degrees from z to e - 1 are solved, for every B that has these columns. That the
+-- columns are those of B is `run-step`. The measure is what is left of the degrees.
+-- Assumes nothing.
+use mathlib.Core.Path.{_≡_, refl, ap, _∙_, subst}
+use mathlib.Core.List.{List}
+use mathlib.Core.Logic.{_⊎_, ⊎-elim}
+use Prim.Native.Nat.{ℕ, _+_, _-_, _*_, _≤_, _<_, zero-le}
+use native.Mathlib.Nat.{le-refl, mul-le-mul}
+use native.Mathlib.Omega.{arith}
+use lib.ListN.{length, getD}
+use borrow.Author.Needs.{needs}
+use Rattle.lists.proofs.Joined.{row-room}
+use Rattle.interpolation.specs.Interpolation.{side}
+use Rattle.scheme.specs.Limits.{maxBlock, maxMessage}
+use Rattle.reader.specs.Decoding.{combined, Solved}
+use Rattle.reader.proofs.Writes.{place-of, solved-none, solved-degree}
+use Rattle.reader.proofs.RowStep.{run-step}
+use Rattle.reader.proofs.decoding.decode_run.Statement.{statement}
+use Rattle.reader.proofs.decoding.decode_run.Tie as tie
+
+abbrev Inv-loop : tie.InvT-loop
+Inv-loop prefixes points basis places top q t many used work₀ z d m high rests e₀ work e =
+    (z ≤ e) × (e ≤ d) × (length work ≡ length work₀)
+    × ((B : List ℕ) → ((f k : ℕ) → z ≤ f → f < d → k < many → getD (combined rests basis f d) k 0 ≡ getD B (t * m + getD places f 0 + k * m) 0)
+    → Solved t (t + many) m z e places B work₀ work)
+
+abbrev μ-loop : tie.MeasureT-loop
+μ-loop prefixes points basis places top q t many used work₀ z d m high rests e₀ work e = d - e
+
+abbrev start : tie.After-rests Inv-loop μ-loop → tie.Start Inv-loop μ-loop
+start c = c .before .before .before .before .before .before .before .before .before
+
+-- the known part has at most 16 columns
+few : (d top high : ℕ) → top ≤ side → ((d < top) × (high ≡ top)) ⊎ ((top ≤ d) × (high ≡ 0)) → high ≤ side
+few d top high h = ⊎-elim (λ (k : (d < top) × (high ≡ top)). rw (k .1) h) (λ (k : (top ≤ d) × (high ≡ 0)). rw (k .1) zero-le)
+
+small : (s : tie.Start Inv-loop μ-loop) → s .args .t * s .args .sizes .block ≤ maxMessage * maxBlock
+small s =
+    let h : s .args .t ≤ maxMessage = omega (arith, s .pre .3, s .pre .0 .blocks-high) in
+    mul-le-mul h (s .pre .0 .m-high)
+
+near : (c : tie.In-loop Inv-loop μ-loop)
+    → let s = start (c .before .before) in
+    getD (s .args .places .now) (c .before .loop .e) 0 < s .args .sizes .block
+near c =
+    let s = start (c .before .before) in
+    s .pre .1 .places-low (c .before .loop .e) (c .before .loop .inv .0) (omega (arith, c .loop-test .taken, s .pre .1 .top-low))
+
+-- the places of a column are in the buffer
+room : (c : tie.In-loop Inv-loop μ-loop) (k : ℕ)
+    → let s = start (c .before .before) in
+    k < s .args .many
+    → s .args .t * s .args .sizes .block + getD (s .args .places .now) (c .before .loop .e) 0 + k * s .args .sizes .block
+    < length (c .before .loop .work)
+room c k h =
+    let s = start (c .before .before) in
+    let p = s .args .sizes in
+    omega (
+      arith,
+      place-of (s .args .t) k (p .block) (getD (s .args .places .now) (c .before .loop .e) 0),
+      row-room (s .args .t + k) (p .blocks) (p .block) (omega (arith, s .pre .3)),
+      near c,
+      s .pre .0 .work-long,
+      c .before .loop .inv .2,
+    )
+
+pub decode-run-spec : {M : Type 1} → statement M
+decode-run-spec =
+    tie.close
+    (tie.spec Inv-loop μ-loop
+    (λ c κs.
+    let s = c .before .before .before .before in
+    (s .pre .1 .top-low, s .pre .1 .top-high, omega (arith, small s, s .pre .0 .m-high), λ e a b. s .pre .1 .places-low e (omega (arith, s .pre .0 .z-low)) b))
+    (λ c κs. search needs)
+    (λ c.
+    let s = c .before .before .before .before .before .before .before in
+    omega (arith, s .pre .1 .inside, s .pre .3))
+    (λ c κs.
+    let s = c .before .before .before .before .before .before .before .before in
+    let a = s .args in (
+      s .pre .0 .d-high,
+      few (a .sizes .d) (a .top) (c .before .before .known-count .result) (s .pre .1 .top-high) (c .before .before .known-count .ensures),
+      c .before .before .before .known .ensures .long,
+      s .pre .2,
+      omega (arith, s .pre .3, s .pre .1 .inside),
+      s .pre .0 .prefixes-long,
+      s .pre .0 .points-long,
+      s .pre .4,
+    ))
+    (λ c. (le-refl _, start c .pre .0 .z-low, refl, λ B h. solved-none _ _ _ _ _ B _))
+    (λ c κs. search needs)
+    (λ c. omega (arith, small (start (c .before .before .before .before))))
+    (λ c. search needs)
+    (λ c. search needs)
+    (λ c. omega (arith, small (start (c .before .before .before .before .before)), near (c .before .before .before)))
+    (λ c κs.
+    let i = c .before .before .before .before in
+    let s = start (i .before .before) in
+    (s .pre .2, omega (arith, small s, near i, s .pre .0 .m-high), room i))
+    (λ c.
+    let i = c .before .before .before .before .before .before .before in
+    omega (arith, i .loop-test .taken, start (i .before .before) .pre .0 .d-high))
+    (λ c.
+    let i = c .before .before .before .before .before .before .before in
+    omega (arith, i .loop-test .taken))
+    (λ c.
+    let a = c .before .before in
+    let w = a .before .before .before in
+    let i = w .before .before in
+    let l = i .before .loop in (
+      omega (arith, l .inv .0),
+      omega (arith, i .loop-test .taken),
+      a .scatter .kept .1 .1 .1 .1 .0 ∙ l .inv .2,
+      λ B h.
+          solved-degree (l .inv .3 B h)
+          (a .scatter .ensures B
+          (λ k hk. ap (λ (r : List ℕ). getD r k 0) (w .combine .ensures) ∙ h (l .e) k (l .inv .0) (i .loop-test .taken) hk)),
+    ))
+    (λ c. c .before .loop .inv .2)
+    (λ c.
+    let l = c .before .loop in
+    let r = c .before .before in
+    let s = start r in
+    let a = s .args in
+    let p = a .sizes in
+    let k = r .before .before in
+    let whole : l .e ≡ p .d = omega arith in (
+      r .rests .ensures .0,
+      λ B I R H.
+          subst (λ (x : ℕ). Solved (a .t) (a .t + a .many) (p .block) (p .z) x (a .places .now) B (a .work .now) (l .work)) whole
+          (l .inv .3 B
+          (run-step (p .z) (p .d) (a .top) (k .before .known-count .result) (p .block) (p .blocks) (p .prefix) (a .q) (a .t) (a .many)
+          (a .points .now) (a .prefixes .now) (a .places .now) (a .work .now) B (a .basis .now) (k .before .before .known .result) (r .rests .result)
+          I R H (k .before .before .known .ensures) (r .rests .ensures .1) (k .before .known-count .ensures)
+          (s .pre .0 .z-low) (s .pre .0 .points-long) (s .pre .1 .top-low) (s .pre .1 .top-high) (s .pre .2) (s .pre .3))),
+    )))

@@ -1,0 +1,62 @@
+-- `reader::opening::open` meets its contract: the parties are at most 16, the blocks of the longest message fit in the work buffer, and the
+-- opened blocks have these prefixes, by proofs/Reading.antt.
+-- Assumes nothing.
+use mathlib.Core.Path.{sym}
+use Prim.Native.Nat.{_≤_}
+use native.Mathlib.Omega.{arith}
+use lib.ListN.{length}
+use lib.Seq.{length-take-le}
+use borrow.Author.Needs.{needs}
+use Rattle.lists.specs.Each.{Byte}
+use Rattle.lists.proofs.Each.{each-of}
+use Rattle.interpolation.specs.Interpolation.{side}
+use Rattle.staircase.specs.Parameters.{parameters}
+use Rattle.staircase.proofs.Sizes.{blocks-few}
+use Rattle.reader.proofs.OpenerAnswers.{few, covers, fits-buffer}
+use Rattle.reader.proofs.Reading.{begins}
+use Rattle.reader.proofs.opening.open.Statement.{statement}
+use Rattle.reader.proofs.opening.open.Tie as tie
+
+-- there are at most 16 parties
+few-of : (c : tie.After-slice-known) → length (c .before .before .before .before .args .parties .now) ≤ side
+few-of c =
+    let s = c .before .before .before .before in
+    few (parameters (s .args .s .n) (s .args .s .r) (s .args .s .z) (s .args .counts .now)) (s .args .s) (s .pre .0) (s .args .parties .now) (s .pre .1) (s .pre .2)
+
+pub open-spec : {M : Type 1} → statement M
+open-spec =
+    tie.close
+    (tie.spec
+    (λ c κs. few-of c)
+    (λ c. omega (arith, few-of (c .before)))
+    (λ c. sym (length-take-le _ (c .before .points-of .result) (omega (arith, few-of (c .before .before)))))
+    (λ c κs. search needs)
+    (λ c. omega (arith, few-of (c .before .before .before)))
+    (λ c. sym (length-take-le _ (c .before .before .before .points-of .result) (omega (arith, few-of (c .before .before .before .before)))))
+    (λ c. search needs)
+    (λ c κs.
+    let o = c .before .before .before .before .before in
+    let s = o .before .before .before .before .before in
+    let h = s .pre in
+    let p = parameters (s .args .s .n) (s .args .s .r) (s .args .s .z) (s .args .counts .now) in (
+      h .0,
+      h .1,
+      blocks-few p (s .args .s) (h .0) _ (s .args .blocks) (h .4) (h .3),
+      length-take-le _ (o .points-of .result) (omega (arith, few-of (o .before))),
+      h .5,
+      fits-buffer p (s .args .s) (h .0) _ (s .args .blocks) (h .4) (h .3),
+      covers p (s .args .s) (h .0) _ (s .args .blocks) (h .4) (h .3),
+    ))
+    (λ c. search needs)
+    (λ c.
+    let f = c .before .before .before in
+    let b = f .before .before .before .before in
+    let o = b .before .before in
+    let s = o .before .before .before .before .before in
+    let a = s .args in
+    let h = s .pre in
+    let bytes = each-of Byte (a .prefixes .now) 0 (λ i l. o .before .before .shared-slice-known3 .given i .fits) in (
+      f .open-into .ensures .0,
+      begins (a .s) _ (h .0) (a .parties .now) (h .1) (h .2) _ (a .blocks) (h .3) (h .4) (a .prefixes .now) (h .5) bytes _ _ (o .points-of .ensures _) (b .basis .ensures) _
+          (f .open-into .ensures .1),
+    )))

@@ -1,0 +1,139 @@
+-- What the reader's loops do (document 01's opener). B is a string of whole blocks whose prefixes, under some keys, are those that are read.
+-- The contracts speak of every such B, and say of a write only that it is a byte of B: what was one stays one.
+-- Assumes nothing.
+use mathlib.Core.Path.{_≡_}
+use mathlib.Core.List.{List, [], map}
+use Prim.Native.Nat.{ℕ, zero, suc, _+_, _*_, _≤_, _<_}
+use lib.ListN.{length, getD, take}
+use Rattle.lists.specs.Each.{Each, Distinct, Byte}
+use Rattle.lists.specs.Table.{tabulate}
+use Rattle.gf256.specs.Byte.{_⊕_, _⊗_}
+use Rattle.gf256.specs.Lanes.{lanes}
+use Rattle.interpolation.specs.Polynomial.{eval, sumTo}
+use Rattle.interpolation.specs.Interpolation.{side, basisTable}
+use Rattle.scheme.specs.Limits.{maxBlock, maxMessage}
+use Rattle.scheme.specs.Check.{rowsOfCount}
+use Rattle.family.specs.Message.{Bytes}
+use Rattle.staircase.specs.Coefficients.{countOf, origin, coefficientAt}
+use Rattle.columns.specs.Columns.{strided}
+
+-- the largest number that places are counted in
+abbrev pub maxUsize : ℕ
+maxUsize = 18446744073709551615
+
+-- ---- 64 blocks side by side
+
+-- the coefficients of degree e: the sum, over the first n parties, of the party's weight at that degree times its bytes
+unfoldable pub combined : List (List ℕ) → List (List ℕ) → ℕ → ℕ → List ℕ
+combined rests basis e n = tabulate lanes (λ k. sumTo n (λ a. getD (getD basis a []) e 0 ⊗ getD (getD rests a []) k 0))
+
+-- the columns of a row's known coefficients, those of degrees d to top − 1, as they stand in the work buffer; zeros below d
+pub record KnownColumns (work places : List ℕ) (d top t m : ℕ) (columns : List (List ℕ)) : Type 0 where
+  pub long : length columns ≡ side
+  pub low : (e k : ℕ) → e < d → e < side → getD (getD columns e []) k 0 ≡ 0
+  pub high : (e : ℕ) → d ≤ e → e < top → getD columns e [] ≡ strided work (t * m + getD places e 0) m
+
+-- the first n parties' bytes from place q of their prefixes on, `many` of them, each with the value at the party's point of the first `high` columns taken off
+pub record Rests (prefixes points : List ℕ) (columns : List (List ℕ)) (high prefix q many n : ℕ) (rests : List (List ℕ)) : Type 0 where
+  pub long : length rests ≡ side
+  pub is : (a k : ℕ) → a < n → k < many
+      → getD (getD rests a []) k 0
+      ≡ getD prefixes (a * prefix + q + k) 0 ⊕ eval (getD points a 0) (map (λ column. getD column k 0) (take high columns))
+
+-- w became w′ by writes of bytes of B alone, among them those at the first n of these places
+pub record Wrote (B w w′ : List ℕ) (n : ℕ) (place : ℕ → ℕ) : Type 0 where
+  pub long : length w′ ≡ length w
+  pub still : (i : ℕ) → getD w i 0 ≡ getD B i 0 → getD w′ i 0 ≡ getD B i 0
+  pub new : (k : ℕ) → k < n → getD w′ (place k) 0 ≡ getD B (place k) 0
+
+-- the first n of the column's bytes were written, `step` apart from place `at` on: said for every B that has the first `many` of them there
+abbrev pub Scattered : List ℕ → ℕ → ℕ → ℕ → ℕ → List ℕ → List ℕ → Type 0
+Scattered column at step many n w w′ =
+    (B : List ℕ) → ((k : ℕ) → k < many → getD column k 0 ≡ getD B (at + k * step) 0) → Wrote B w w′ n (λ k. at + k * step)
+
+-- ---- one row
+
+-- the sizes of what is read: z keys a row, d parties, `blocks` blocks of m bytes, and prefixes of `prefix` bytes
+pub record Sizes (z d m blocks prefix : ℕ) (prefixes points work : List ℕ) : Type 0 where
+  pub z-low : z ≤ d
+  pub d-high : d ≤ side
+  pub m-high : m ≤ maxBlock
+  pub blocks-high : blocks ≤ maxMessage
+  pub prefixes-long : length prefixes ≡ d * prefix
+  pub points-long : length points ≡ d
+  pub work-long : length work ≡ blocks * m
+
+-- a row of `top` coefficients, with their places in the block by degree, whose bytes stand from place q on in each prefix
+pub record Place (z d m top blocks prefix q : ℕ) (places : List ℕ) : Type 0 where
+  pub top-low : d ≤ top
+  pub top-high : top ≤ side
+  pub inside : q + blocks ≤ prefix
+  pub places-low : (e : ℕ) → z ≤ e → e < top → getD places e 0 < m
+
+-- the basis is that of the points, which are distinct bytes
+pub record BasisOf (points : List ℕ) (basis : List (List ℕ)) : Type 0 where
+  pub is : basis ≡ basisTable points
+  pub bytes : Each Byte points
+  pub distinct : Distinct points
+
+-- the row in each block of B: its coefficients from degree z up are B's bytes at their places, and the prefixes have its values
+pub record RowOf (z d top m blocks prefix q : ℕ) (points prefixes places B : List ℕ) : Type 0 where
+  pub row : ℕ → List ℕ
+  pub long : (t : ℕ) → t < blocks → length (row t) ≡ top
+  pub bytes : (t : ℕ) → t < blocks → Each Byte (row t)
+  pub message : (t e : ℕ) → t < blocks → z ≤ e → e < top → getD (row t) e 0 ≡ getD B (t * m + getD places e 0) 0
+  pub sent : (t a : ℕ) → t < blocks → a < d → getD prefixes (a * prefix + (q + t)) 0 ≡ eval (getD points a 0) (row t)
+
+-- the buffer has B's bytes at the places of degrees `low` to `high` − 1, in the blocks from s to n − 1
+abbrev pub Holds : ℕ → ℕ → ℕ → ℕ → ℕ → List ℕ → List ℕ → List ℕ → Type 0
+Holds s n m low high places B w =
+    (t e : ℕ) → s ≤ t → t < n → low ≤ e → e < high → getD w (t * m + getD places e 0) 0 ≡ getD B (t * m + getD places e 0) 0
+
+-- w became w′ by writes of bytes of B alone, among them those at the places of degrees z to d − 1, in the blocks from s to n − 1
+pub record Solved (s n m z d : ℕ) (places B w w′ : List ℕ) : Type 0 where
+  pub long : length w′ ≡ length w
+  pub still : (i : ℕ) → getD w i 0 ≡ getD B i 0 → getD w′ i 0 ≡ getD B i 0
+  pub new : Holds s n m z d places B w′
+
+-- what a row's loop over the blocks from s to n − 1 does: said for every B that has these prefixes and is known from degree d up
+abbrev pub Solves : ℕ → ℕ → ℕ → ℕ → ℕ → ℕ → ℕ → ℕ → ℕ → List ℕ → List (List ℕ) → List ℕ → List ℕ → List ℕ → List ℕ → Type 0
+Solves s n z d top m blocks prefix q points basis prefixes places w w′ =
+    (B : List ℕ) → BasisOf points basis → RowOf z d top m blocks prefix q points prefixes places B
+    → Holds s n m d top places B w → Solved s n m z d places B w w′
+
+-- ---- all rows
+
+-- B are whole blocks and K their keys, of which these are the prefixes
+pub record Sent (m b z : ℕ) (ds : List ℕ) (d blocks : ℕ) (points prefixes B K : List ℕ) : Type 0 where
+  pub blocks-are : Bytes (blocks * m) B
+  pub keys-are : Bytes (blocks * (b * z)) K
+  pub rows : (j t a : ℕ) → j < rowsOfCount m z d → t < blocks → a < d
+      → getD prefixes (a * (rowsOfCount m z d * blocks) + (j * blocks + t)) 0
+      ≡ eval (getD points a 0) (tabulate (countOf m z ds j) (coefficientAt m b z ds B K t j))
+
+-- the rows of the groups before group g, which is counted from 0
+unfoldable pub rowsBefore : ℕ → ℕ → List ℕ → ℕ → ℕ
+rowsBefore m z ds zero = 0
+rowsBefore m z ds (suc g) = rowsOfCount m z (getD ds g 0)
+
+-- the buffer has B's bytes at all origins of the rows from `from` to P − 1
+abbrev pub Found : ℕ → ℕ → List ℕ → ℕ → ℕ → ℕ → List ℕ → List ℕ → Type 0
+Found m z ds P blocks from B w =
+    (j e t : ℕ) → from ≤ j → j < P → t < blocks → z ≤ e → e < countOf m z ds j
+    → getD w (t * m + origin m z ds j e) 0 ≡ getD B (t * m + origin m z ds j e) 0
+
+-- what the loop over the rows of group g does: said for every B that has these prefixes and of which the rows of the later groups are found
+abbrev pub Finds : ℕ → ℕ → ℕ → List ℕ → ℕ → ℕ → ℕ → List ℕ → List (List ℕ) → List ℕ → List ℕ → List ℕ → Type 0
+Finds m b z ds d blocks g points basis prefixes w w′ =
+    (B K : List ℕ) → BasisOf points basis → Sent m b z ds d blocks points prefixes B K
+    → Found m z ds (rowsOfCount m z d) blocks (rowsBefore m z ds (g + 1)) B w → Found m z ds (rowsOfCount m z d) blocks (rowsBefore m z ds g) B w′
+
+-- the work buffer is every B that has these prefixes, if the basis is that of the points
+abbrev pub Decodes : ℕ → ℕ → ℕ → List ℕ → ℕ → ℕ → List ℕ → List (List ℕ) → List ℕ → List ℕ → Type 0
+Decodes m b z ds d blocks points basis prefixes w =
+    (B K : List ℕ) → BasisOf points basis → Sent m b z ds d blocks points prefixes B K → w ≡ B
+
+-- the output is the beginning of every B that has these prefixes, if the basis is that of the points
+abbrev pub Begins : ℕ → ℕ → ℕ → List ℕ → ℕ → ℕ → List ℕ → List (List ℕ) → List ℕ → ℕ → List ℕ → Type 0
+Begins m b z ds d blocks points basis prefixes bytes out =
+    (B K : List ℕ) → BasisOf points basis → Sent m b z ds d blocks points prefixes B K → out ≡ take bytes B

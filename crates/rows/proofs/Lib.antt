@@ -1,0 +1,5 @@
+pub mod Scheme
+mod Groups
+mod Steps
+mod Collected
+pub mod Laws

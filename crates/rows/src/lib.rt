@@ -1,0 +1,120 @@
+// What the rows of a block are made of: a row's group and the number of its coefficients, where each of
+// them comes from, and the point at which a party has the rows' values. The functions take any numbers,
+// and have an answer for those that no scheme has too; nobody uses it.
+ghost use mathlib.Core.Path.{_≡_};
+ghost use lib.ListN.{getD};
+ghost use Rattle.staircase.specs.Parameters.{Parameters, point};
+ghost use Rattle.staircase.specs.Coefficients.{groupOf, countOf};
+ghost use Rattle.rows.specs.Origins.{found, rowOrigins};
+ghost use Rattle.rows.specs.Sources.{SourceIs};
+use interpolation::SIDE;
+use lists::smaller;
+use lists::wide;
+
+// The point at which a party has the rows' values: its number.
+pub fn point_of(party: u8) -> u8
+    ensures { λ x. ⌜ ((p : Parameters) → x ≡ point p party) ⌝ }
+{
+    party
+}
+
+// The group of a row, counted from 0: the place of the first count whose P is above the row, or the number
+// of counts where there is none.
+pub fn group_of(block: usize, z: u8, counts: &[u8], row: usize) -> usize
+    ensures { λ i. ⌜ i ≡ groupOf block z (now (counts .entry)) row ⌝ }
+{
+    let mut i = 0;
+    while i < counts.len() {
+        if row < scheme::rows_of_count(block, z, wide(counts[i])) {
+            return i;
+        }
+        i += 1;
+    }
+    i
+}
+
+// The number of coefficients of a row: the count of its group, 0 where it has none.
+pub fn count_of(block: usize, z: u8, counts: &[u8], row: usize) -> usize
+    ensures { λ d. ⌜ d ≡ countOf block z (now (counts .entry)) row ⌝ }
+{
+    count_at(counts, group_of(block, z, counts, row))
+}
+
+// The origins of a row's coefficients: at each degree from z up, below the row's count, the place of the
+// coefficient in the block's message. 0 at the other degrees.
+pub fn row_origins(block: usize, z: u8, counts: &[u8], row: usize) -> [usize; SIDE]
+    ensures { λ places. ⌜ places ≡ rowOrigins block z (now (counts .entry)) row ⌝ }
+{
+    let mut places = [0usize; SIDE];
+    let end = smaller(count_of(block, z, counts, row), SIDE);
+    let mut e = wide(z);
+    while e < end {
+        places[e] = origin(block, z, counts, row, e);
+        e += 1;
+    }
+    places
+}
+
+// The place of a coefficient in the block's message. Following a copy home ends there, each step in an
+// earlier row.
+fn origin(block: usize, z: u8, counts: &[u8], row: usize, degree: usize) -> usize
+    ensures { λ place. ⌜ place ≡ found block z (now (counts .entry)) row degree ⌝ }
+{
+    match source_of(block, z, counts, row, degree) {
+        Source::Message(place) => place,
+        Source::Copy(earlier, its_degree) => origin(block, z, counts, earlier, its_degree),
+    }
+}
+
+// Where a coefficient comes from: a place of the block's message, or the coefficient of an earlier row.
+enum Source {
+    Message(usize),
+    Copy(usize, usize),
+}
+
+// Where the coefficient of a degree comes from. The first group holds the block's bytes in order. A later
+// group, of the count d, is filled in order with what the rows before it hold at the degrees from d up,
+// row after row, so `width` coefficients of each. Place 0 for a key, and for what is no coefficient of a
+// scheme's row.
+fn source_of(block: usize, z: u8, counts: &[u8], row: usize, degree: usize) -> Source
+    ensures { λ from. ⌜ SourceIs block z (now (counts .entry)) row degree from ⌝ }
+{
+    let low = wide(z);
+    let i = group_of(block, z, counts, row);
+    let d = count_at(counts, i);
+    // A key.
+    if degree < low {
+        return Source::Message(0);
+    }
+    // Past the row's end. A row that has no group ends at once, with d = 0.
+    if d <= degree {
+        return Source::Message(0);
+    }
+    if i == 0 {
+        return Source::Message(row * (d - low) + (degree - low));
+    }
+    let above = count_at(counts, i - 1);
+    // The counts of a scheme fall.
+    if above <= d {
+        return Source::Message(0);
+    }
+    let before = scheme::rows_of_count(block, z, above);
+    let q = (row - before) * (d - low) + (degree - low);
+    let width = above - d;
+    let earlier = q / width;
+    // In a scheme a group is filled from the rows before it alone.
+    if row <= earlier {
+        return Source::Message(0);
+    }
+    Source::Copy(earlier, d + q % width)
+}
+
+// The count at a place, 0 past the last.
+fn count_at(counts: &[u8], i: usize) -> usize
+    ensures { λ d. ⌜ d ≡ getD (now (counts .entry)) i 0 ⌝ }
+{
+    if i < counts.len() {
+        return wide(counts[i]);
+    }
+    0
+}

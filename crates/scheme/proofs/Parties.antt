@@ -1,0 +1,67 @@
+-- Refusal 7: where it does not apply, the parties are distinct and have numbers from 1 to n; and the test as the code makes it, party by party.
+-- Assumes nothing.
+use mathlib.Core.Path.{_≡_, refl}
+use mathlib.Core.Bool.{Bool, true, false, _||_, not, or-true}
+use mathlib.Core.Logic.{_≢_}
+use mathlib.Core.List.{List, [], _∷_}
+use Prim.Native.Nat.{ℕ, _+_, _≤_, _<_}
+use native.Mathlib.Numerals.{add-one}
+use native.Mathlib.Omega.{arith}
+use lib.Dec.{ltb, leb}
+use lib.ListN.{length, getD, drop, drop-of-length-le}
+use lib.Seq.{drop-cons}
+use borrow.Author.Tests.{ltb-true, leb-true, not-false, lt-ltb, le-ltb, le-leb, lt-leb}
+use Rattle.lists.specs.Each.{Each, Distinct}
+use Rattle.lists.proofs.Each.{each-imp}
+use Rattle.lists.proofs.Tests.{both, neither}
+use Rattle.scheme.specs.Readers.{rises, within, partiesRefused}
+
+-- numbers that rise from above `below` and stay at most n
+rising : (n below : ℕ) (parties : List ℕ) → rises below parties ≡ true → within n parties ≡ true
+    → Distinct parties × Each (λ s. (below < s) × (s ≤ n)) parties
+unfolding rises within
+rising n below [] e w = (tt, tt)
+rising n below (s ∷ parties) e w =
+    let up = both (ltb below s) (rises s parties) e in
+    let most = both (leb s n) (within n parties) w in
+    let rest = rising n s parties (up .1) (most .1) in
+    let low : below < s = ltb-true below s (up .0) in (
+      (each-imp (λ y. (s < y) × (y ≤ n)) (λ y. s ≢ y) (λ y h q. omega arith) parties (rest .1), rest .0),
+      ((low, leb-true s n (most .0)), each-imp (λ y. (s < y) × (y ≤ n)) (λ y. (below < y) × (y ≤ n)) (λ y h. (omega arith, h .1)) parties (rest .1)),
+    )
+
+pub parties-distinct : (n : ℕ) (parties : List ℕ) → partiesRefused n parties ≡ false
+    → Distinct parties × Each (λ s. (1 ≤ s) × (s ≤ n)) parties
+unfolding partiesRefused
+parties-distinct n parties e =
+    let tests = neither (not (rises 0 parties)) (not (within n parties)) e in
+    rising n 0 parties (not-false (rises 0 parties) (tests .0)) (not-false (within n parties) (tests .1))
+
+-- ---- the loop: the test of the parties from place i on, after one with the number `below`
+
+unfoldable pub refusedFrom : ℕ → ℕ → List ℕ → Bool
+refusedFrom n below parties = not (rises below parties) || not (within n parties)
+
+module _ (n : ℕ) (parties : List ℕ) where
+  pub refused-start : partiesRefused n parties ≡ refusedFrom n 0 parties
+  unfolding partiesRefused refusedFrom
+  refused-start = refl
+
+  module _ (below i : ℕ) where
+    pub refused-end : length parties ≤ i → refusedFrom n below (drop i parties) ≡ false
+    unfolding refusedFrom rises within
+    refused-end h = rw (drop-of-length-le parties h)
+
+    module _ (h : i < length parties) where
+      pub refused-low : getD parties i 0 ≤ below → refusedFrom n below (drop i parties) ≡ true
+      unfolding refusedFrom rises within
+      refused-low l = simp (drop-cons parties i 0 h, le-ltb below (getD parties i 0) l)
+
+      pub refused-high : n < getD parties i 0 → refusedFrom n below (drop i parties) ≡ true
+      unfolding refusedFrom rises within
+      refused-high l = simp (drop-cons parties i 0 h, lt-leb (getD parties i 0) n l, or-true)
+
+      pub refused-next : below < getD parties i 0 → getD parties i 0 ≤ n
+          → refusedFrom n below (drop i parties) ≡ refusedFrom n (getD parties i 0) (drop (i + 1) parties)
+      unfolding refusedFrom rises within
+      refused-next l m = simp (add-one, drop-cons parties i 0 h, lt-ltb below (getD parties i 0) l, le-leb (getD parties i 0) n m)

@@ -1,0 +1,108 @@
+-- Demand 2, the way there and back: what was split comes back.
+-- Assumes nothing.
+use mathlib.Core.Path.{_≡_, refl, sym, ap, ap₂, _∙_}
+use mathlib.Core.Bool.{true, false}
+use mathlib.Core.List.{List, [], _∷_, map}
+use Prim.Native.Nat.{ℕ, _+_, _*_, _≤_, _<_}
+use native.Mathlib.Nat.{mul-assoc, mul-comm, add-mul, mul-le-mul-right}
+use native.Mathlib.Omega.{arith}
+use lib.ListN.{length, getD, take}
+use lib.Seq.{getD-take, length-take-le}
+use borrow.Author.Tests.{eq-eqb, le-ltb}
+use Rattle.lists.specs.Each.{Each, Distinct, Byte, occurs}
+use Rattle.lists.specs.Table.{joined, piece}
+use Rattle.lists.proofs.Each.{each-getD, occurs-place}
+use Rattle.lists.proofs.Joined.{below-product, length-joined, joined-same, piece-joined}
+use Rattle.lists.proofs.Piece.{getD-piece}
+use Rattle.scheme.specs.Limits.{maxMessage}
+use Rattle.scheme.specs.Check.{blockCount, rowsOfCount}
+use Rattle.scheme.proofs.Laws.{accepted, parties-distinct}
+use Rattle.family.specs.Message.{Bytes, padded}
+use Rattle.family.specs.Family.{shareOfBlocks}
+use Rattle.family.specs.Exactness as family
+use Rattle.family.proofs.Shares.{length-share}
+use Rattle.family.proofs.Exactness.{blocks-exact, message-back}
+use Rattle.staircase.specs.Parameters.{Parameters, Accepted, Party, block, rows, point}
+use Rattle.staircase.specs.Shares.{staircase, shares, partOf, KeyString}
+use Rattle.staircase.specs.Opening.{openedBlock, openedKeys}
+use Rattle.staircase.proofs.Hidden.{part-is-share}
+use Rattle.staircase.proofs.Exactness.{staircase-exact, sent-most}
+use Rattle.scheme.specs.Outcome.{firstOf}
+use Rattle.dealer.specs.Split.{splitOutput}
+use Rattle.party.specs.Prefix.{prefixRefusal, prefixLength, prefixOf}
+use Rattle.scheme.specs.Readers.{partiesRefused}
+use Rattle.staircase.specs.Exactness.{prefixBytes, openedString, Gives, Opened, Exactness}
+use Rattle.reader.specs.Reconstruct.{reconstructRefusal, reconstructOutput}
+use Rattle.sharing.specs.Secrecy.{wanted}
+use Rattle.sharing.specs.RoundTrip.{handed, RoundTrip}
+use Rattle.staircase.proofs.WholeBlocks.{keys-number, place-of-count, exact, bytes-number}
+use Rattle.dealer.proofs.Laws.{none-applies, written}
+
+module _ (p : Parameters) (A : Accepted p) (message keys : List ℕ) (bytes : Each Byte message) (short : length message ≤ maxMessage) (K : KeyString p (length message) keys)
+    (parties : List ℕ) (counted : occurs (length parties) (p .counts) ≡ true) (passed : partiesRefused (p .n) parties ≡ false)
+    (before : List ℕ) (room : length before ≡ wanted p (length message)) where
+  abbrev N : ℕ
+  N = blockCount (block p) (length message)
+
+  abbrev rowsSent : ℕ
+  rowsSent = rowsOfCount (block p) (p .z) (length parties)
+
+  abbrev prefixAt : ℕ → List ℕ
+  prefixAt a = family.prefixOf (staircase p) parties rowsSent N (padded (block p) message) keys (getD parties a 0)
+
+  rows-few : rowsSent ≤ rows p
+  rows-few =
+      let i = place-of-count (length parties) (p .counts) counted in
+      let v = parties-distinct (p .n) parties passed in
+      sent-most p A (i .0) (i .1) parties (v .1) (v .0) (i .2)
+
+  -- the share of a party as the splitter wrote it
+  share-written : (a : ℕ) → a < length parties
+      → partOf p N (getD parties a 0) (splitOutput p message keys before) ≡ shareOfBlocks (staircase p) N (padded (block p) message) keys (getD parties a 0)
+  share-written a h =
+      ap (partOf p N (getD parties a 0)) (written p message keys before (none-applies p A (length message) (length keys) (length before) short (K .0) room))
+      ∙ part-is-share p message keys (getD parties a 0) (each-getD {A = ℕ} (Party p) parties a 0 h (parties-distinct (p .n) parties passed .1))
+
+  share-long : (s : ℕ) → length (shareOfBlocks (staircase p) N (padded (block p) message) keys s) ≡ rows p * N
+  unfolding staircase
+  share-long s = length-share (staircase p) N (padded (block p) message) keys s
+
+  -- the prefix that is handed back of a share
+  prefix-handed : (share : List ℕ) → length share ≡ rows p * N → prefixOf p (length message) (length parties) share ≡ take (rowsSent * N) share
+  unfolding prefixOf prefixRefusal prefixLength firstOf
+  prefix-handed share long = simp (A, le-ltb maxMessage (length message) short, counted, eq-eqb (length share) (N * rows p) (long ∙ mul-comm (rows p) N))
+
+  handed-is : handed p (length message) parties (splitOutput p message keys before) ≡ joined (length parties) prefixAt
+  unfolding family.prefixOf
+  handed-is =
+      joined-same {A = ℕ} (length parties) _ _
+      (λ a h. ap (prefixOf p (length message) (length parties)) (share-written a h) ∙ prefix-handed _ (share-long (getD parties a 0)))
+
+  prefix-long : (a : ℕ) → length (prefixAt a) ≡ rowsSent * N
+  unfolding family.prefixOf
+  prefix-long a =
+      length-take-le (rowsSent * N) _ (rw (share-long (getD parties a 0)) (mul-le-mul-right N rows-few))
+
+  pub handed-long : length (handed p (length message) parties (splitOutput p message keys before)) ≡ prefixBytes p (length parties) N
+  handed-long =
+      ap length handed-is ∙ length-joined {A = ℕ} (length parties) (rowsSent * N) prefixAt (λ a _. prefix-long a) ∙ sym (bytes-number p A parties counted passed N)
+
+  positive : 0 < staircase p .block
+  unfolding staircase
+  positive = accepted (p .n) (p .r) (p .z) (p .counts) A .least .positive
+
+  pub returned : take (length message) (openedString p parties N (handed p (length message) parties (splitOutput p message keys before))) ≡ message
+  unfolding openedString staircase
+  returned =
+      rw handed-is
+      (message-back (staircase p) parties rowsSent (rowsSent * p .z) _ positive message keys (joined (length parties) prefixAt) bytes
+      (exact p A parties counted passed N) (rw (← keys-number p N) at K)
+      (λ a h. sym (piece-joined {A = ℕ} (length parties) (rowsSent * N) prefixAt (λ a _. prefix-long a) a h)))
+
+pub round-trip : (p : Parameters) → RoundTrip p
+unfolding reconstructOutput reconstructRefusal firstOf
+round-trip p A message keys bytes short K parties counted passed before out room fits =
+    let long = handed-long p A message keys bytes short K parties counted passed before room in
+    let passes : reconstructRefusal p (length message) parties (length (handed p (length message) parties (splitOutput p message keys before))) (length out) ≡ 0 =
+    simp (A, le-ltb maxMessage (length message) short, counted, passed, eq-eqb _ _ long, eq-eqb _ _ fits) in
+    (passes, simp passes (returned p A message keys bytes short K parties counted passed before room))

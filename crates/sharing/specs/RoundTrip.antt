@@ -1,0 +1,36 @@
+-- Demand 2 of the request, the way there and back: what was split comes back. That opening is exact, whatever prefixes are lent, is
+-- `Exactness` in crates/staircase/specs/Exactness.antt.
+-- Assumes nothing.
+use mathlib.Core.Path.{_≡_}
+use mathlib.Core.Bool.{true, false}
+use mathlib.Core.List.{List}
+use Prim.Native.Nat.{ℕ, _≤_}
+use lib.ListN.{length, getD}
+use Rattle.lists.specs.Each.{Each, Byte, occurs}
+use Rattle.lists.specs.Table.{joined}
+use Rattle.scheme.specs.Limits.{maxMessage}
+use Rattle.scheme.specs.Check.{blockCount}
+use Rattle.scheme.specs.Readers.{partiesRefused}
+use Rattle.staircase.specs.Parameters.{Parameters, Accepted, block}
+use Rattle.staircase.specs.Shares.{partOf, KeyString}
+use Rattle.dealer.specs.Split.{splitOutput}
+use Rattle.party.specs.Prefix.{prefixOf}
+use Rattle.reader.specs.Reconstruct.{reconstructRefusal, reconstructOutput}
+use Rattle.sharing.specs.Secrecy.{wanted}
+
+-- the prefixes that the parties hand back of what the splitter wrote, one after another in the list's order
+abbrev pub handed : Parameters → ℕ → List ℕ → List ℕ → List ℕ
+handed p message parties output =
+    joined (length parties)
+    (λ a. prefixOf p message (length parties) (partOf p (blockCount (block p) message) (getD parties a 0) output))
+
+-- what was split comes back: the opener, lent these prefixes, accepts and writes the message
+abbrev pub RoundTrip : Parameters → Type 0
+RoundTrip p =
+    Accepted p
+    → (message keys : List ℕ) → Each Byte message → length message ≤ maxMessage → KeyString p (length message) keys
+    → (parties : List ℕ) → occurs (length parties) (p .counts) ≡ true → partiesRefused (p .n) parties ≡ false
+    → (before out : List ℕ) → length before ≡ wanted p (length message) → length out ≡ length message
+    → let prefixes : List ℕ = handed p (length message) parties (splitOutput p message keys before) in
+    (reconstructRefusal p (length message) parties (length prefixes) (length out) ≡ 0)
+    × (reconstructOutput p (length message) parties prefixes out ≡ message)

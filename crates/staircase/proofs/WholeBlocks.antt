@@ -1,0 +1,91 @@
+-- Whole blocks: every string of prefixes opens to the one string of whole blocks that has them.
+-- Assumes nothing.
+use mathlib.Core.Path.{_≡_, sym, ap, _∙_}
+use mathlib.Core.Bool.{true, false}
+use mathlib.Core.List.{List, map}
+use Prim.Native.Nat.{ℕ, _+_, _*_, _<_}
+use native.Mathlib.Nat.{mul-assoc, mul-comm, add-mul}
+use native.Mathlib.Omega.{arith}
+use lib.ListN.{length, getD, take}
+use lib.Seq.{getD-take}
+use Rattle.lists.specs.Each.{Each, Distinct, occurs}
+use Rattle.lists.specs.Table.{piece}
+use Rattle.lists.proofs.Each.{occurs-place}
+use Rattle.lists.proofs.Joined.{below-product}
+use Rattle.lists.proofs.Piece.{getD-piece}
+use Rattle.scheme.specs.Check.{blockCount, rowsOfCount}
+use Rattle.scheme.specs.Readers.{partiesRefused}
+use Rattle.scheme.proofs.Laws.{parties-distinct}
+use Rattle.family.specs.Message.{Bytes}
+use Rattle.family.specs.Exactness as family
+use Rattle.family.proofs.Exactness.{blocks-exact}
+use Rattle.staircase.specs.Parameters.{Parameters, Accepted, Party, block, rows, point}
+use Rattle.staircase.specs.Shares.{staircase}
+use Rattle.staircase.specs.Opening.{openedBlock}
+use Rattle.staircase.specs.Exactness.{prefixBytes, openedString, Opened, Exactness}
+use Rattle.staircase.proofs.Exactness.{staircase-exact, sent-most}
+
+-- the keys of N blocks, in the order of the factors that document 01 writes
+pub keys-number : (p : Parameters) (N : ℕ) → N * staircase p .keys ≡ N * p .z * rows p
+unfolding staircase
+keys-number p N = ap (λ (k : ℕ). N * k) (mul-comm (rows p) (p .z)) ∙ sym (mul-assoc N (p .z) (rows p))
+
+-- the place of a count in the list
+pub place-of-count : (d : ℕ) (ds : List ℕ) → occurs d ds ≡ true → (i : ℕ) × (i < length ds) × (d ≡ getD ds i 0)
+place-of-count d ds e =
+    let at = occurs-place d ds e in
+    (at .0, at .1, sym (at .2))
+
+module _ (p : Parameters) (A : Accepted p) (parties : List ℕ) (counted : occurs (length parties) (p .counts) ≡ true) (passed : partiesRefused (p .n) parties ≡ false) where
+  abbrev sent : ℕ
+  sent = rowsOfCount (block p) (p .z) (length parties)
+
+  at : (i : ℕ) × (i < length (p .counts)) × (length parties ≡ getD (p .counts) i 0)
+  at = place-of-count (length parties) (p .counts) counted
+
+  valid : Distinct parties × Each (Party p) parties
+  valid = parties-distinct (p .n) parties passed
+
+  -- N blocks are opened exactly
+  pub exact : (N : ℕ) → family.Exact (staircase p) parties sent (sent * p .z) (openedBlock (block p) (p .z) (p .counts) (map (point p) parties)) N
+  unfolding staircase
+  exact =
+      blocks-exact (staircase p) parties sent (sent * p .z) _ _ (sent-most p A (at .0) (at .1) parties (valid .1) (valid .0) (at .2))
+      (staircase-exact p A (at .0) (at .1) parties (valid .1) (valid .0) (at .2))
+
+  pub bytes-number : (N : ℕ) → prefixBytes p (length parties) N ≡ length parties * (sent * N)
+  unfolding prefixBytes
+  bytes-number N = mul-assoc (length parties) sent N
+
+  -- a key of the first rows, in the whole key string and in its block's piece
+  key-at : (N t j e : ℕ) (keys : List ℕ) → j < sent → e < p .z
+      → getD (take (sent * p .z) (piece (staircase p .keys) t keys)) (j * p .z + e) 0 ≡ getD keys ((t * rows p + j) * p .z + e) 0
+  unfolding staircase
+  key-at N t j e keys hj he =
+      let few = sent-most p A (at .0) (at .1) parties (valid .1) (valid .0) (at .2) in
+      let place : t * (rows p * p .z) + (j * p .z + e) ≡ (t * rows p + j) * p .z + e =
+      omega (arith, add-mul (t * rows p) j (p .z), mul-assoc t (rows p) (p .z)) in
+      getD-take (sent * p .z) (piece (rows p * p .z) t keys) (j * p .z + e) 0 (below-product j sent e (p .z) hj he)
+      ∙ getD-piece {A = ℕ} (rows p * p .z) t keys (j * p .z + e) 0 (below-product j (rows p) e (p .z) (omega (arith, few)) he)
+      ∙ ap (λ (k : ℕ). getD keys k 0) place
+
+  opened : (message : ℕ) (prefixes : List ℕ) → Bytes (prefixBytes p (length parties) (blockCount (block p) message)) prefixes → Opened p message parties prefixes
+  unfolding openedString staircase
+  opened message prefixes h =
+      let N : ℕ = blockCount (block p) message in
+      let E = exact N in
+      let found = E .exists prefixes (rw (bytes-number N) at h) in
+      record {
+        bytes = E .bytes prefixes;
+        exists = (found .0, rw (keys-number p N) at (found .1), found .2);
+        unique = λ blocks keys hb hk g. E .unique prefixes blocks keys hb (rw (← keys-number p N) at hk) g;
+        keys-unique =
+            λ blocks blocks′ keys keys′ hb hb′ hk hk′ g g′ t j e ht hj he.
+            sym (key-at N t j e keys hj he)
+            ∙ ap (λ (l : List ℕ). getD l (j * p .z + e) 0)
+            (E .keys-unique prefixes blocks blocks′ keys keys′ hb hb′ (rw (← keys-number p N) at hk) (rw (← keys-number p N) at hk′) g g′ t ht)
+            ∙ key-at N t j e keys′ hj he;
+      }
+
+pub exactness : (p : Parameters) → Exactness p
+exactness p A message short parties counted passed prefixes h = opened p A parties counted passed message prefixes h

@@ -1,0 +1,57 @@
+-- Demand 2 of the request: opening is exact. For whole blocks, whatever their padding: a message is the beginning of its blocks.
+-- Assumes nothing.
+use mathlib.Core.Path.{_≡_}
+use mathlib.Core.Bool.{true, false}
+use mathlib.Core.List.{List, map}
+use Prim.Native.Nat.{ℕ, _+_, _*_, _≤_, _<_}
+use lib.ListN.{length, getD}
+use Rattle.lists.specs.Each.{occurs}
+use Rattle.scheme.specs.Limits.{maxMessage}
+use Rattle.scheme.specs.Check.{blockCount, rowsOfCount}
+use Rattle.scheme.specs.Readers.{partiesRefused}
+use Rattle.family.specs.Message.{Bytes}
+use Rattle.family.specs.Exactness as family
+use Rattle.family.specs.Exactness.{openedBlocks}
+use Rattle.staircase.specs.Parameters.{Parameters, Accepted, block, rows, point}
+use Rattle.staircase.specs.Shares.{staircase, KeyString}
+use Rattle.staircase.specs.Opening.{openedBlock}
+
+-- the prefix bytes that d parties send for N blocks: d × P × N
+unfoldable pub prefixBytes : Parameters → ℕ → ℕ → ℕ
+prefixBytes p d N = d * rowsOfCount (block p) (p .z) d * N
+
+-- the whole blocks that have these prefixes, opened block by block
+unfoldable pub openedString : Parameters → List ℕ → ℕ → List ℕ → List ℕ
+openedString p parties N prefixes =
+    openedBlocks (staircase p) parties (rowsOfCount (block p) (p .z) (length parties))
+    (openedBlock (block p) (p .z) (p .counts) (map (point p) parties)) N prefixes
+
+-- these N whole blocks under these keys give the parties the prefixes: at each place of the list, the first P × N bytes of that party's share
+abbrev pub Gives : Parameters → List ℕ → ℕ → List ℕ → List ℕ → List ℕ → Type 0
+Gives p parties N blocks keys prefixes = family.Gives (staircase p) parties (rowsOfCount (block p) (p .z) (length parties)) N blocks keys prefixes
+
+-- what the prefixes of a message of so many bytes open to
+pub record Opened (p : Parameters) (message : ℕ) (parties prefixes : List ℕ) : Type 0 where
+  -- whole blocks
+  pub bytes : Bytes (blockCount (block p) message * block p) (openedString p parties (blockCount (block p) message) prefixes)
+  -- that some keys turn into these prefixes
+  pub exists : (keys : List ℕ) × KeyString p message keys
+      × Gives p parties (blockCount (block p) message) (openedString p parties (blockCount (block p) message) prefixes) keys prefixes
+  -- and no other blocks do, whatever their padding and keys
+  pub unique : (blocks keys : List ℕ) → Bytes (blockCount (block p) message * block p) blocks → KeyString p message keys
+      → Gives p parties (blockCount (block p) message) blocks keys prefixes → blocks ≡ openedString p parties (blockCount (block p) message) prefixes
+  -- the keys of the first P rows of each block are determined too
+  pub keys-unique : (blocks blocks′ keys keys′ : List ℕ) → Bytes (blockCount (block p) message * block p) blocks
+      → Bytes (blockCount (block p) message * block p) blocks′ → KeyString p message keys → KeyString p message keys′
+      → Gives p parties (blockCount (block p) message) blocks keys prefixes → Gives p parties (blockCount (block p) message) blocks′ keys′ prefixes
+      → (t j e : ℕ) → t < blockCount (block p) message → j < rowsOfCount (block p) (p .z) (length parties) → e < p .z
+      → getD keys ((t * rows p + j) * p .z + e) 0 ≡ getD keys′ ((t * rows p + j) * p .z + e) 0
+
+-- for every accepted scheme and length, every list of as many distinct parties as a count, and every string of as many bytes as their prefixes have
+abbrev pub Exactness : Parameters → Type 0
+Exactness p =
+    Accepted p
+    → (message : ℕ) → message ≤ maxMessage
+    → (parties : List ℕ) → occurs (length parties) (p .counts) ≡ true → partiesRefused (p .n) parties ≡ false
+    → (prefixes : List ℕ) → Bytes (prefixBytes p (length parties) (blockCount (block p) message)) prefixes
+    → Opened p message parties prefixes
