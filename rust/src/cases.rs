@@ -1,9 +1,11 @@
-//! Test inputs that more than one test draws.
+//! Test inputs that more than one test draws: schemes, and calls that are accepted until something in them is changed.
 
 use crate::random::Random;
 use crate::reference;
 
-/// An accepted scheme, with its block length and rows.
+/// A scheme. One that `new` or `drawn` makes is accepted, with the block length m and the rows b of a block; they stay
+/// as they are when a test changes the rest.
+#[derive(Clone, Debug)]
 pub struct Scheme {
     pub n: u8,
     pub r: u8,
@@ -33,5 +35,124 @@ impl Scheme {
                 _ => {}
             }
         }
+    }
+
+    pub fn is_default(&self) -> bool {
+        (self.n, self.r, self.z, &self.counts[..]) == (5, 2, 1, &[5, 4, 3])
+    }
+
+    /// Changes all but m and b.
+    pub fn set(&mut self, n: u8, r: u8, z: u8, counts: Vec<u8>) {
+        *self = Scheme { n, r, z, counts, ..*self };
+    }
+}
+
+/// The scheme of the forms without one.
+impl Default for Scheme {
+    fn default() -> Scheme {
+        Scheme::new(5, 2, 1, vec![5, 4, 3]).expect("an accepted scheme")
+    }
+}
+
+/// Hands on all accepted sizes n, r and z with every list of counts that falls from at most n to n - r.
+pub fn falling_lists(mut to: impl FnMut(u8, u8, u8, Vec<u8>)) {
+    for n in 2..=16u8 {
+        for r in 0..n {
+            for z in 1..n - r {
+                // Bit i of `chosen`: is n - i a count?
+                for chosen in 0..1u32 << r {
+                    let above = (n - r + 1..=n).rev().filter(|d| chosen >> (n - d) & 1 == 1);
+                    to(n, r, z, above.chain([n - r]).collect());
+                }
+            }
+        }
+    }
+}
+
+/// All accepted schemes.
+pub fn all_schemes() -> Vec<Scheme> {
+    let mut schemes = Vec::new();
+    falling_lists(|n, r, z, counts| schemes.extend(Scheme::new(n, r, z, counts)));
+    schemes
+}
+
+/// Changes that make the counts of an accepted scheme bad, refusal 3.
+pub const BAD_COUNTS: [fn(&mut Scheme); 10] = [
+    |s| s.counts.clear(),
+    // Equal neighbours.
+    |s| s.counts.insert(0, *s.counts.first().unwrap_or(&s.n)),
+    // A rising pair.
+    |s| s.counts.insert(0, s.counts.first().unwrap_or(&s.n).wrapping_sub(1)),
+    // Starting above n.
+    |s| s.counts.insert(0, s.n.wrapping_add(1)),
+    // Not ending at n - r: below it, above it, and one further count.
+    |s| s.counts.last_mut().into_iter().for_each(|last| *last = last.wrapping_sub(1)),
+    |s| s.counts.last_mut().into_iter().for_each(|last| *last = last.wrapping_add(1)),
+    |s| s.counts.push(s.counts.last().unwrap_or(&s.n).wrapping_sub(1)),
+    // Nine counts, and nothing else: they fall from n to n - r.
+    |s| s.set(16, 8, 7, (8..=16).rev().collect()),
+    // Lists that would pass if their length were taken modulo 256, and a long one that falls.
+    |s| s.counts.resize(s.counts.len() + 256, 1),
+    |s| s.counts = (0..=255).rev().collect(),
+];
+
+/// Lengths around the ends of blocks and of runs of 64 blocks.
+pub fn length(random: &mut Random, m: usize) -> usize {
+    let blocks = [0, 1, 2, 3, 63, 64, 65, 130][random.below(8)];
+    (blocks * m + random.below(3)).saturating_sub(1).min(16384)
+}
+
+/// d of the n parties, rising.
+pub fn parties(random: &mut Random, n: u8, d: u8) -> Vec<u8> {
+    let mut all: Vec<u8> = (1..=n).collect();
+    while all.len() > d as usize {
+        all.remove(random.below(all.len()));
+    }
+    all
+}
+
+/// The arguments of a call of any part of the library: of the slices that hold bytes, their lengths alone.
+#[derive(Clone, Debug)]
+pub struct Call {
+    pub scheme: Scheme,
+    /// Of the message, as the splitter is lent it and the others are told it.
+    pub length: usize,
+    /// The count for which a prefix is asked.
+    pub d: usize,
+    pub parties: Vec<u8>,
+    pub keys: usize,
+    /// The splitter's output: all shares.
+    pub shares: usize,
+    /// What a party lends.
+    pub share: usize,
+    /// What the readers lend.
+    pub prefixes: usize,
+    /// The opener's output.
+    pub message: usize,
+}
+
+impl Call {
+    /// An accepted call: a message of this length, read by these parties.
+    pub fn new(scheme: &Scheme, length: usize, parties: Vec<u8>) -> Call {
+        let (z, d) = (scheme.z as usize, parties.len());
+        let blocks = length.div_ceil(scheme.m);
+        let share = blocks * scheme.b;
+        Call {
+            scheme: scheme.clone(),
+            length,
+            d,
+            parties,
+            keys: share * z,
+            shares: share * scheme.n as usize,
+            share,
+            prefixes: d * (scheme.m / (d - z)) * blocks,
+            message: length,
+        }
+    }
+
+    /// The same with d parties drawn, d one of the counts.
+    pub fn drawn(random: &mut Random, scheme: &Scheme, length: usize) -> Call {
+        let d = scheme.counts[random.below(scheme.counts.len())];
+        Call::new(scheme, length, parties(random, scheme.n, d))
     }
 }

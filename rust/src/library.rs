@@ -1,5 +1,5 @@
 //! The proved library, over its C boundary. The wrappers pass every value on as it is: the library
-//! refuses bad input itself.
+//! refuses bad input itself. `include/sharing.h` says of each call what it answers and refuses.
 
 mod boundary {
     #[repr(C)]

@@ -1,5 +1,6 @@
 //! The rules of the scheme, written from their document alone and by other means than the proved
-//! library: products bit by bit, inverses by trial, the block length by Euclid's algorithm.
+//! library: products bit by bit, inverses by trial, the block length by Euclid's algorithm, rows by their literal
+//! lists, values as sums of powers, weights and messages by elimination. Speed is no aim.
 
 use std::sync::OnceLock;
 
@@ -24,7 +25,8 @@ fn bitwise_product(a: u8, b: u8) -> u8 {
 /// The same, worked out once for all pairs.
 pub fn mul(a: u8, b: u8) -> u8 {
     static PRODUCTS: OnceLock<Vec<u8>> = OnceLock::new();
-    let products = PRODUCTS.get_or_init(|| (0..=u16::MAX).map(|pair| bitwise_product((pair >> 8) as u8, pair as u8)).collect());
+    let product = |pair: u16| bitwise_product((pair >> 8) as u8, pair as u8);
+    let products = PRODUCTS.get_or_init(|| (0..=u16::MAX).map(product).collect());
     products[256 * a as usize + b as usize]
 }
 
@@ -100,18 +102,21 @@ fn rows(z: usize, counts: &[u8], block: &[u8], keys: &[u8]) -> Vec<Vec<u8>> {
     rows
 }
 
-/// The value of a polynomial, as a sum of powers.
-fn value(row: &[u8], x: u8) -> u8 {
-    let mut power = 1;
-    let mut sum = 0;
-    for &coefficient in row {
-        sum ^= mul(coefficient, power);
-        power = mul(power, x);
+/// The powers of x from 0 on.
+fn powers(x: u8, count: usize) -> Vec<u8> {
+    let mut powers = vec![1];
+    for _ in 1..count {
+        powers.push(mul(x, *powers.last().expect("not empty")));
     }
-    sum
+    powers
 }
 
-/// The number of blocks of a message, and the rows of a block.
+/// The value of a polynomial, as a sum: each coefficient times the power of the point.
+fn value(row: &[u8], powers: &[u8]) -> u8 {
+    row.iter().zip(powers).fold(0, |sum, (&coefficient, &power)| sum ^ mul(coefficient, power))
+}
+
+/// The number of blocks of a message, the block length and the rows of a block.
 fn sizes(n: u8, r: u8, z: u8, counts: &[u8], length: usize) -> (usize, usize, usize) {
     let (m, b) = check(n, r, z, counts).expect("an accepted scheme");
     let (m, b) = (m as usize, b as usize);
@@ -127,12 +132,13 @@ pub fn split(n: u8, r: u8, z: u8, counts: &[u8], message: &[u8], keys: &[u8], ou
     first_refusal(&[(keys.len() != blocks * z * b, 8), (out != n as usize * blocks * b, 10)])?;
     let mut padded = message.to_vec();
     padded.resize(blocks * m, 0);
+    let points: Vec<Vec<u8>> = (1..=n).map(|s| powers(s, n as usize)).collect();
     let mut shares = vec![0; n as usize * blocks * b];
     for t in 0..blocks {
         let rows = rows(z, counts, &padded[t * m..(t + 1) * m], &keys[t * z * b..(t + 1) * z * b]);
         for (j, row) in rows.iter().enumerate() {
-            for s in 1..=n {
-                shares[(s as usize - 1) * blocks * b + j * blocks + t] = value(row, s);
+            for (a, powers) in points.iter().enumerate() {
+                shares[a * blocks * b + j * blocks + t] = value(row, powers);
             }
         }
     }
@@ -142,15 +148,16 @@ pub fn split(n: u8, r: u8, z: u8, counts: &[u8], message: &[u8], keys: &[u8], ou
 /// The length of a prefix.
 pub fn prefix(n: u8, r: u8, z: u8, counts: &[u8], length: usize, d: usize, share: usize) -> Result<u64, u64> {
     check(n, r, z, counts)?;
-    first_refusal(&[(length > 16384, 5), (!counts.iter().any(|&count| count as usize == d), 6)])?;
+    first_refusal(&[(length > 16384, 5), (!is_count(counts, d), 6)])?;
     let (blocks, m, b) = sizes(n, r, z, counts, length);
     first_refusal(&[(share != blocks * b, 9)])?;
     Ok((m / (d - z as usize) * blocks) as u64)
 }
 
-/// Solves a system of linear equations over the bytes by elimination: `matrix` has one row an
-/// equation, with its right side last. There is exactly one solution.
-fn solve(mut matrix: Vec<Vec<u8>>) -> Vec<u8> {
+/// Solves a system of linear equations over the bytes by elimination. `matrix` has one row an equation: the
+/// coefficients of the unknowns, then any number of right sides. There is exactly one solution for each right
+/// side. The answer has one row an unknown: its value for each right side.
+fn solve(mut matrix: Vec<Vec<u8>>) -> Vec<Vec<u8>> {
     let size = matrix.len();
     for column in 0..size {
         let pivot = (column..size).find(|&row| matrix[row][column] != 0).expect("a unique solution");
@@ -163,50 +170,59 @@ fn solve(mut matrix: Vec<Vec<u8>>) -> Vec<u8> {
         for (row, entries) in matrix.iter_mut().enumerate() {
             let factor = entries[column];
             if row != column && factor != 0 {
-                for (entry, &pivot) in entries.iter_mut().zip(&pivot_row) {
+                // The pivot row is zero before its column.
+                for (entry, &pivot) in entries.iter_mut().zip(&pivot_row).skip(column) {
                     *entry ^= mul(factor, pivot);
                 }
             }
         }
     }
-    matrix.iter().map(|row| row[size]).collect()
+    matrix.into_iter().map(|row| row[size..].to_vec()).collect()
 }
 
-fn powers(x: u8, count: usize) -> Vec<u8> {
-    let mut powers = vec![1];
-    for _ in 1..count {
-        powers.push(mul(x, *powers.last().expect("not empty")));
-    }
-    powers
+fn is_count(counts: &[u8], d: usize) -> bool {
+    counts.iter().any(|&count| count as usize == d)
 }
 
-fn check_parties(n: u8, parties: &[u8]) -> bool {
-    parties.windows(2).all(|pair| pair[0] < pair[1]) && parties.iter().all(|&s| (1..=n).contains(&s))
+fn parties_are_bad(n: u8, parties: &[u8]) -> bool {
+    parties.windows(2).any(|pair| pair[0] >= pair[1]) || parties.iter().any(|&party| party == 0 || party > n)
 }
 
 /// The weights: row i, column e.
 pub fn basis(n: u8, r: u8, z: u8, counts: &[u8], parties: &[u8]) -> Result<Vec<Vec<u8>>, u64> {
     check(n, r, z, counts)?;
     let d = parties.len();
-    first_refusal(&[(!counts.iter().any(|&count| count as usize == d), 6), (!check_parties(n, parties), 7)])?;
-    let row = |i: usize| {
-        solve(
-            parties
-                .iter()
-                .enumerate()
-                .map(|(k, &s)| {
-                    let mut equation = powers(s, d);
-                    equation.push((k == i) as u8);
-                    equation
-                })
-                .collect(),
-        )
-    };
-    Ok((0..d).map(row).collect())
+    first_refusal(&[(!is_count(counts, d), 6), (parties_are_bad(n, parties), 7)])?;
+    // Right side i wants the value 1 at party i and 0 at the others; unknown e is the coefficient of degree e.
+    let unit = |i: usize| (0..d).map(move |k| (k == i) as u8);
+    let equations = parties.iter().enumerate().map(|(i, &s)| powers(s, d).into_iter().chain(unit(i)).collect());
+    let solutions = solve(equations.collect());
+    Ok((0..d).map(|i| solutions.iter().map(|coefficient| coefficient[i]).collect()).collect())
 }
 
-/// Opens a message: in each block the unknowns are the block's bytes and the keys of the rows that
-/// the parties send, and each byte of a prefix is one equation.
+/// The equations of a block without their right sides: one for each row that a party sends, party after party. The
+/// unknowns are the m bytes of the block and the keys of those rows. Column u is what is sent if unknown u is 1 and all
+/// others are 0.
+fn equations(m: usize, z: usize, counts: &[u8], parties: &[u8]) -> Vec<Vec<u8>> {
+    let sent = m / (parties.len() - z);
+    let mut equations = vec![Vec::new(); parties.len() * sent];
+    for unknown in 0..m + sent * z {
+        // No block has more than m rows.
+        let mut bytes = vec![0; m + m * z];
+        bytes[unknown] = 1;
+        let rows = rows(z, counts, &bytes[..m], &bytes[m..]);
+        for (a, &s) in parties.iter().enumerate() {
+            let powers = powers(s, counts[0] as usize);
+            for (j, row) in rows[..sent].iter().enumerate() {
+                equations[a * sent + j].push(value(row, &powers));
+            }
+        }
+    }
+    equations
+}
+
+/// Opens a message by solving the equations of all blocks at once: they differ in their right sides alone.
+#[allow(clippy::too_many_arguments)]
 pub fn reconstruct(
     n: u8,
     r: u8,
@@ -219,46 +235,16 @@ pub fn reconstruct(
 ) -> Result<(u64, Vec<u8>), u64> {
     check(n, r, z, counts)?;
     let d = parties.len();
-    first_refusal(&[
-        (length > 16384, 5),
-        (!counts.iter().any(|&count| count as usize == d), 6),
-        (!check_parties(n, parties), 7),
-    ])?;
-    let (blocks, m, b) = sizes(n, r, z, counts, length);
-    let z = z as usize;
-    let sent = m / (d - z);
-    first_refusal(&[(prefixes.len() != d * sent * blocks, 9), (out != length, 10)])?;
-    // The row of a unit message or key: what each unknown adds to each row.
-    let unknowns = m + sent * z;
-    let mut coefficients = vec![vec![vec![0; unknowns]; 0]; b];
-    for unknown in 0..unknowns {
-        let (mut block, mut keys) = (vec![0; m], vec![0; b * z]);
-        if unknown < m {
-            block[unknown] = 1;
-        } else {
-            keys[unknown - m] = 1;
-        }
-        for (j, row) in rows(z, counts, &block, &keys).into_iter().enumerate() {
-            coefficients[j].resize(row.len(), vec![0; unknowns]);
-            for (e, coefficient) in row.into_iter().enumerate() {
-                coefficients[j][e][unknown] = coefficient;
-            }
-        }
+    first_refusal(&[(length > 16384, 5), (!is_count(counts, d), 6), (parties_are_bad(n, parties), 7)])?;
+    let (blocks, m, _) = sizes(n, r, z, counts, length);
+    let used = d * (m / (d - z as usize)) * blocks;
+    first_refusal(&[(prefixes.len() != used, 9), (out != length, 10)])?;
+    // A row of a party stands in its prefix with all blocks together.
+    let mut system = equations(m, z as usize, counts, parties);
+    for (i, equation) in system.iter_mut().enumerate() {
+        equation.extend(&prefixes[i * blocks..(i + 1) * blocks]);
     }
-    let mut message = Vec::new();
-    for t in 0..blocks {
-        let mut equations = Vec::new();
-        for (a, &s) in parties.iter().enumerate() {
-            for (j, row) in coefficients.iter().enumerate().take(sent) {
-                let powers = powers(s, row.len());
-                let mut equation: Vec<u8> =
-                    (0..unknowns).map(|u| row.iter().zip(&powers).fold(0, |sum, (c, &p)| sum ^ mul(c[u], p))).collect();
-                equation.push(prefixes[a * sent * blocks + j * blocks + t]);
-                equations.push(equation);
-            }
-        }
-        message.extend(&solve(equations)[..m]);
-    }
-    message.truncate(length);
-    Ok(((d * sent * blocks) as u64, message))
+    let solutions = solve(system);
+    let message = (0..length).map(|place| solutions[place % m][place / m]).collect();
+    Ok((used as u64, message))
 }

@@ -1,155 +1,118 @@
 //! The basis and the opener against the other implementation, and round trips.
 
-use gilunavoi::cases::Scheme;
+use gilunavoi::cases::{all_schemes, length, parties, Call, Scheme};
 use gilunavoi::random::Random;
-use gilunavoi::{library, reference};
-
-/// d of the n parties, rising.
-fn parties(random: &mut Random, n: u8, d: usize) -> Vec<u8> {
-    let mut all: Vec<u8> = (1..=n).collect();
-    while all.len() > d {
-        all.remove(random.below(all.len()));
-    }
-    all
-}
+use gilunavoi::{compare, library};
 
 #[test]
-fn bases() {
+fn the_basis_of_every_list_of_parties() {
     let mut random = Random::new(7);
-    let mut accepted = 0;
-    for _ in 0..10_000 {
-        let mut s = Scheme::drawn(&mut random, 840);
-        let d = s.counts[random.below(s.counts.len())] as usize;
-        let mut list = parties(&mut random, s.n, d);
-        match random.below(8) {
-            0 => list.swap(0, d / 2),
-            1 => list[d - 1] = random.byte() % 20,
-            2 => list.push(random.byte() % 20),
-            3 => list.resize(256 + d, 1),
-            4 => s.z = random.byte() % 20,
-            _ => {}
-        }
-        let expected = reference::basis(s.n, s.r, s.z, &s.counts, &list).map(|rows| {
-            let mut table = [0; 256];
-            for (i, row) in rows.iter().enumerate() {
-                table[16 * i..16 * i + row.len()].copy_from_slice(row);
-            }
-            table
-        });
-        assert_eq!(library::basis(s.n, s.r, s.z, &s.counts, &list), expected);
-        accepted += expected.is_ok() as u32;
-    }
-    println!("10000 lists, {accepted} accepted");
-    assert!(accepted > 3000);
-}
-
-/// Opens with guard bytes around the output, which a refusal leaves.
-fn compare(s: &Scheme, length: usize, parties: &[u8], prefixes: &[u8], out: usize, random: &mut Random) -> bool {
-    let before = random.bytes(out + 2);
-    let mut buffer = before.clone();
-    let answer = library::reconstruct(s.n, s.r, s.z, &s.counts, length, parties, prefixes, &mut buffer[1..=out]);
-    let expected = reference::reconstruct(s.n, s.r, s.z, &s.counts, length, parties, prefixes, out);
-    assert_eq!((buffer[0], buffer[out + 1]), (before[0], before[out + 1]));
-    match &expected {
-        Ok((used, message)) => {
-            assert_eq!(answer, Ok(*used));
-            assert_eq!(&buffer[1..=out], &message[..], "n {}, r {}, z {}, counts {:?}", s.n, s.r, s.z, s.counts);
-        }
-        Err(number) => {
-            assert_eq!(answer, Err(*number));
-            assert_eq!(buffer, before);
+    let mut lists = 0;
+    for chosen in 0..1u32 << 16 {
+        let parties: Vec<u8> = (1..=16).filter(|i| chosen >> (i - 1) & 1 == 1).collect();
+        let d = parties.len() as u8;
+        // With fewer than two parties no scheme is accepted.
+        if let Some(scheme) = Scheme::new(16, 16 - d.min(16), 1, vec![d]) {
+            assert_eq!(compare::basis(&Call::new(&scheme, 0, parties), &mut random), Ok(()));
+            lists += 1;
         }
     }
-    expected.is_ok()
+    println!("{lists} lists");
+    assert_eq!(lists, (1 << 16) - 17);
 }
 
 #[test]
-fn prefixes_that_no_splitter_wrote_and_refusals() {
+fn bases_of_drawn_schemes() {
     let mut random = Random::new(8);
-    let mut accepted = 0;
-    for _ in 0..1500 {
-        let mut s = Scheme::drawn(&mut random, 24);
-        let d = s.counts[random.below(s.counts.len())] as usize;
-        let mut list = parties(&mut random, s.n, d);
-        let mut length = random.below(3 * s.m + 2);
-        let mut bytes = d * (s.m / (d - s.z as usize)) * length.div_ceil(s.m);
-        let mut out = length;
-        match random.below(12) {
-            0 => list.swap(0, d / 2),
-            1 => list.push(s.n),
-            2 => bytes += 1,
-            3 => out += 1,
-            4 => s.z = random.byte() % 20,
-            5 => length = 16385,
-            6 => length = usize::MAX - random.below(2),
-            _ => {}
-        }
-        let prefixes = random.bytes(bytes);
-        accepted += compare(&s, length, &list, &prefixes, out, &mut random) as u32;
+    for case in 0..10_000 {
+        let scheme = if case % 10 == 0 { Scheme::default() } else { Scheme::drawn(&mut random, 840) };
+        let call = Call::drawn(&mut random, &scheme, 0);
+        assert_eq!(compare::basis(&call, &mut random), Ok(()));
     }
-    println!("1500 calls, {accepted} accepted");
-    assert!(accepted > 500);
+    println!("10000 lists");
 }
 
-/// Splits, takes the prefixes and opens, for every count.
-fn round_trips(s: &Scheme, length: usize, random: &mut Random) {
-    let blocks = length.div_ceil(s.m);
-    let share = blocks * s.b;
-    let (message, keys) = (random.bytes(length), random.bytes(blocks * s.z as usize * s.b));
-    let mut shares = vec![0; s.n as usize * share];
-    library::split(s.n, s.r, s.z, &s.counts, &message, &keys, &mut shares).unwrap();
-    for &d in &s.counts {
-        let list = parties(random, s.n, d as usize);
-        let mut prefixes = Vec::new();
-        for &party in &list {
-            let share = &shares[(party as usize - 1) * share..party as usize * share];
-            let bytes = library::prefix(s.n, s.r, s.z, &s.counts, length, d as usize, share).unwrap();
-            prefixes.extend(&share[..bytes as usize]);
-        }
-        let mut opened = vec![1; length];
-        let used = library::reconstruct(s.n, s.r, s.z, &s.counts, length, &list, &prefixes, &mut opened);
-        assert_eq!(used, Ok((d as usize * (s.m / (d - s.z) as usize) * blocks) as u64));
-        assert_eq!(opened, message, "n {}, r {}, z {}, counts {:?}, {d} readers", s.n, s.r, s.z, s.counts);
+/// Opens prefixes that no splitter wrote, for schemes with blocks of at most `longest` bytes.
+fn openings(seed: u64, calls: usize, longest: usize, blocks: usize) {
+    let mut random = Random::new(seed);
+    for case in 0..calls {
+        let scheme = if case % 20 == 0 { Scheme::default() } else { Scheme::drawn(&mut random, longest) };
+        let length = random.below(blocks * scheme.m + 1);
+        let call = Call::drawn(&mut random, &scheme, length);
+        assert_eq!(compare::reconstruct(&call, &mut random), Ok(()));
     }
+    println!("{calls} openings of blocks of at most {longest} bytes");
+}
+
+#[test]
+fn openings_of_short_blocks() {
+    openings(9, 20_000, 24, 3);
+    openings(10, 1000, 12, 140);
+}
+
+#[test]
+fn openings_of_longer_blocks() {
+    openings(11, 6000, 60, 3);
+    openings(12, 2000, 120, 3);
+    openings(13, 300, 840, 3);
+}
+
+#[test]
+fn openings_of_the_longest_blocks() {
+    let mut random = Random::new(14);
+    let scheme = Scheme::new(9, 3, 1, vec![9, 8, 7, 6]).unwrap();
+    for d in [9, 8, 7, 6] {
+        let call = Call::new(&scheme, 2000, parties(&mut random, 9, d));
+        assert_eq!(compare::reconstruct(&call, &mut random), Ok(()));
+    }
+    println!("4 openings of blocks of 840 bytes");
+}
+
+/// Splits a message, hands out the prefixes and opens them.
+fn round_trip(call: &Call, random: &mut Random) {
+    let (s, length) = (&call.scheme, call.length);
+    let (message, keys) = (random.bytes(length), random.bytes(call.keys));
+    let mut shares = vec![0; call.shares];
+    let written = library::split(s.n, s.r, s.z, &s.counts, &message, &keys, &mut shares);
+    assert_eq!(written, Ok(call.share as u64), "{call:?}");
+    let mut prefixes = Vec::new();
+    for &party in &call.parties {
+        let share = &shares[(party as usize - 1) * call.share..][..call.share];
+        let bytes = library::prefix(s.n, s.r, s.z, &s.counts, length, call.d, share).unwrap();
+        prefixes.extend(&share[..bytes as usize]);
+    }
+    let mut opened = vec![1; length];
+    let used = library::reconstruct(s.n, s.r, s.z, &s.counts, length, &call.parties, &prefixes, &mut opened);
+    assert_eq!(used, Ok(call.prefixes as u64), "{call:?}");
+    assert!(opened == message, "{call:?}");
 }
 
 #[test]
 fn what_was_split_comes_back() {
-    let mut random = Random::new(9);
-    let named = [
-        (5, 2, 1, vec![5, 4, 3]),
-        (7, 4, 1, vec![7, 4, 3]),
-        (9, 3, 1, vec![9, 8, 7, 6]),
-        (10, 4, 1, vec![10, 6]),
-        (8, 2, 3, vec![8, 6]),
-        (9, 4, 2, vec![9, 7, 5]),
-    ];
-    for (n, r, z, counts) in named {
-        let s = Scheme::new(n, r, z, counts).unwrap();
-        for length in [0, 1, s.m - 1, s.m, s.m + 1, 64 * s.m + 1, 16384] {
-            round_trips(&s, length.min(16384), &mut random);
-        }
+    let mut random = Random::new(15);
+    let mut schemes = 0;
+    // Every third scheme, for the time that it takes.
+    for scheme in all_schemes().iter().step_by(3) {
+        let length = 1 + random.below(2 * scheme.m);
+        round_trip(&Call::drawn(&mut random, scheme, length), &mut random);
+        schemes += 1;
     }
-    for _ in 0..1000 {
-        let s = Scheme::drawn(&mut random, 840);
-        let length = random.below(3 * s.m + 2).min(16384);
-        round_trips(&s, length, &mut random);
-    }
-    println!("1042 messages");
+    println!("{schemes} schemes");
+    assert!(schemes > 16_000);
 }
 
 #[test]
-fn the_default_scheme() {
-    let mut random = Random::new(10);
-    for length in [0, 1, 12, 13, 1000] {
-        let blocks = usize::div_ceil(length, 12);
-        let prefixes = random.bytes(16 * blocks);
-        let mut opened = vec![0; length];
-        let expected = reference::reconstruct(5, 2, 1, &[5, 4, 3], length, &[1, 2, 4, 5], &prefixes, length).unwrap();
-        assert_eq!(library::reconstruct_default(length, &[1, 2, 4, 5], &prefixes, &mut opened), Ok(expected.0));
-        assert_eq!(opened, expected.1);
+fn longer_messages_come_back_for_every_count() {
+    let mut random = Random::new(16);
+    let mut openings = 0;
+    for case in 0..4000 {
+        let scheme = if case % 10 == 0 { Scheme::default() } else { Scheme::drawn(&mut random, 840) };
+        let length = if case % 10 == 1 { 16384 } else { length(&mut random, scheme.m) };
+        for &d in &scheme.counts {
+            round_trip(&Call::new(&scheme, length, parties(&mut random, scheme.n, d)), &mut random);
+            openings += 1;
+        }
     }
-    assert_eq!(library::basis_default(&[1, 2]), Err(6));
-    assert_eq!(library::basis_default(&[1, 2, 2]), Err(7));
-    assert_eq!(library::basis_default(&[1, 2, 4]), library::basis(5, 2, 1, &[5, 4, 3], &[1, 2, 4]));
+    println!("{openings} openings");
+    assert!(openings > 4000);
 }

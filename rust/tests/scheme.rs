@@ -1,89 +1,80 @@
 //! The check of a scheme against the other implementation.
 
+use gilunavoi::cases::{falling_lists, Scheme, BAD_COUNTS};
+use gilunavoi::compare::check;
 use gilunavoi::random::Random;
-use gilunavoi::{library, reference};
 
-fn compare(n: u8, r: u8, z: u8, counts: &[u8]) {
-    let answer = library::check(n, r, z, counts);
-    assert_eq!(answer, reference::check(n, r, z, counts), "n {n}, r {r}, z {z}, counts {counts:?}");
+/// Counts of how many schemes were checked and accepted.
+#[derive(Default, Debug)]
+struct Tally {
+    schemes: usize,
+    accepted: usize,
 }
 
-/// Lists that fall from at most `n` to `n - r`, and lists that miss it by a little.
-fn counts_near(random: &mut Random, n: u8, r: u8) -> Vec<u8> {
-    let low = n.wrapping_sub(r);
-    let mut counts: Vec<u8> = (low..=n).filter(|&d| d == low || random.below(2) == 0).rev().collect();
-    match random.below(6) {
-        0 => counts.push(random.byte()),
-        1 => counts.insert(0, random.byte()),
-        2 => {
-            if !counts.is_empty() {
-                let place = random.below(counts.len());
-                counts[place] = counts[place].wrapping_add(random.below(3) as u8).wrapping_sub(1);
-            }
-        }
-        _ => {}
+impl Tally {
+    fn check(&mut self, scheme: &Scheme) {
+        self.schemes += 1;
+        self.accepted += check(scheme).is_ok() as usize;
     }
-    counts
+}
+
+fn scheme(n: u8, r: u8, z: u8, counts: Vec<u8>) -> Scheme {
+    Scheme { n, r, z, counts, m: 0, b: 0 }
 }
 
 #[test]
-fn small_parameters_and_the_ends_of_the_byte_range() {
+fn small_sizes_and_the_ends_of_the_byte_range() {
     let mut random = Random::new(1);
     let sizes: Vec<u8> = (0..=20).chain(250..=255).collect();
-    let mut cases = 0;
+    let mut tally = Tally::default();
     for &n in &sizes {
         for &r in &sizes {
             for &z in &sizes {
-                compare(n, r, z, &[]);
-                for _ in 0..8 {
-                    compare(n, r, z, &counts_near(&mut random, n, r));
-                    cases += 1;
+                // A list that falls to n - r, often from at most n, and what is near it.
+                let low = n.wrapping_sub(r);
+                let counts = (low..=n.max(low)).filter(|&d| d == low || random.below(4) == 0).rev().collect();
+                let good = scheme(n, r, z, counts);
+                tally.check(&good);
+                for change in BAD_COUNTS {
+                    let mut bad = good.clone();
+                    change(&mut bad);
+                    tally.check(&bad);
                 }
             }
         }
     }
-    println!("{cases} cases");
+    println!("{tally:?}");
+    assert!(tally.schemes > 200_000 && tally.accepted > 500);
 }
 
 #[test]
-fn every_falling_list_of_accepted_sizes() {
-    let (mut cases, mut accepted) = (0, 0);
-    for n in 2..=16u8 {
-        for r in 0..n {
-            for z in 1..n - r {
-                // Bit i of `chosen`: is n - r + 1 + i a count?
-                for chosen in 0..1u32 << r {
-                    let mut counts = vec![n - r];
-                    counts.extend((0..r).filter(|i| chosen >> i & 1 == 1).map(|i| n - r + 1 + i));
-                    counts.reverse();
-                    compare(n, r, z, &counts);
-                    cases += 1;
-                    accepted += library::check(n, r, z, &counts).is_ok() as u32;
-                }
-            }
-        }
-    }
-    println!("{cases} cases, {accepted} accepted");
-    assert!(accepted > 1000);
+fn every_falling_list_of_good_sizes() {
+    let mut tally = Tally::default();
+    falling_lists(|n, r, z, counts| tally.check(&scheme(n, r, z, counts)));
+    println!("{tally:?}");
+    assert_eq!((tally.schemes, tally.accepted), (130_918, 50_975));
 }
 
 #[test]
-fn random_bytes_and_long_lists() {
+fn drawn_bytes_and_long_lists() {
     let mut random = Random::new(2);
-    for case in 0..20_000 {
-        let length = if case % 50 == 0 { 256 + random.below(300) } else { random.below(12) };
-        let counts = random.bytes(length);
-        compare(random.byte() % 24, random.byte() % 24, random.byte() % 8, &counts);
-        // A list that would pass if its length were taken modulo 256.
-        let mut wrapped = counts.clone();
-        wrapped.resize(259, 3);
-        compare(5, 2, 1, &wrapped);
+    let mut tally = Tally::default();
+    for _ in 0..20_000 {
+        let length = if random.below(20) == 0 { 250 + random.below(300) } else { random.below(12) };
+        let mut counts = random.bytes(length);
+        counts.iter_mut().for_each(|count| *count %= 24);
+        tally.check(&scheme(random.byte() % 24, random.byte() % 24, random.byte() % 8, counts.clone()));
+        // It would pass if its length were taken modulo 256.
+        counts.splice(0..0, [5, 4, 3]);
+        counts.resize(3 + 256 * (1 + random.below(3)), 0);
+        tally.check(&scheme(5, 2, 1, counts));
     }
-    println!("40000 cases");
+    println!("{tally:?}");
+    assert!(tally.accepted < tally.schemes / 2);
 }
 
 #[test]
 fn the_default_scheme() {
-    assert_eq!(library::check_default(), Ok((12, 6)));
-    assert_eq!(reference::check(5, 2, 1, &[5, 4, 3]), Ok((12, 6)));
+    let scheme = Scheme::default();
+    assert_eq!((scheme.m, scheme.b, check(&scheme)), (12, 6, Ok(())));
 }

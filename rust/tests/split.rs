@@ -1,137 +1,64 @@
-//! Splitting and prefixes against the other implementation: shares, refusals alone and several at
-//! once, and outputs that stay as they were.
+//! Splitting and prefixes against the other implementation.
 
-use gilunavoi::cases::Scheme;
+use gilunavoi::cases::{all_schemes, length, Call, Scheme};
+use gilunavoi::compare;
 use gilunavoi::random::Random;
-use gilunavoi::{library, reference};
-
-/// Compares one call, with guard bytes around the output.
-fn compare(s: &Scheme, message: &[u8], keys: &[u8], out: usize, random: &mut Random) -> bool {
-    let before = random.bytes(out + 2);
-    let mut buffer = before.clone();
-    let answer = library::split(s.n, s.r, s.z, &s.counts, message, keys, &mut buffer[1..=out]);
-    let expected = reference::split(s.n, s.r, s.z, &s.counts, message, keys, out);
-    assert_eq!(buffer[0], before[0]);
-    assert_eq!(buffer[out + 1], before[out + 1]);
-    match &expected {
-        Ok(shares) => {
-            assert_eq!(answer, Ok((shares.len() / s.n as usize) as u64));
-            assert_eq!(&buffer[1..=out], &shares[..], "n {}, r {}, z {}, counts {:?}", s.n, s.r, s.z, s.counts);
-        }
-        Err(number) => {
-            assert_eq!(answer, Err(*number));
-            assert_eq!(buffer, before, "a refusal leaves the output");
-        }
-    }
-    expected.is_ok()
-}
-
-/// Message lengths around the ends of blocks and of runs of 64 blocks.
-fn length(random: &mut Random, m: usize) -> usize {
-    let blocks = [0, 1, 2, 3, 63, 64, 65, 130][random.below(8)];
-    let near = (blocks * m + random.below(3)).saturating_sub(1);
-    near.min(16384)
-}
 
 #[test]
-fn shares() {
+fn shares_of_drawn_schemes() {
     let mut random = Random::new(3);
-    for case in 0..3000 {
-        let s = Scheme::drawn(&mut random, 840);
-        let length = if case % 100 == 0 { 16384 } else { length(&mut random, s.m) };
-        let blocks = length.div_ceil(s.m);
-        let (message, keys) = (random.bytes(length), random.bytes(blocks * s.z as usize * s.b));
-        assert!(compare(&s, &message, &keys, s.n as usize * blocks * s.b, &mut random));
+    for case in 0..6000 {
+        let scheme = Scheme::drawn(&mut random, 840);
+        let length = if case % 100 == 0 { 16384 - random.below(2) } else { length(&mut random, scheme.m) };
+        let call = Call::drawn(&mut random, &scheme, length);
+        assert_eq!(compare::split(&call, &mut random), Ok(()));
     }
-    println!("3000 messages");
+    println!("6000 messages");
 }
 
 #[test]
-fn refusals() {
+fn shares_of_every_scheme() {
     let mut random = Random::new(4);
-    let mut refused = 0;
-    for _ in 0..20_000 {
-        let mut s = Scheme::drawn(&mut random, 840);
-        let mut length = length(&mut random, s.m) % 400;
-        let mut blocks = length.div_ceil(s.m);
-        if random.below(6) == 0 {
-            length = 16384 + random.below(2);
-            blocks = length.div_ceil(s.m);
-        }
-        let mut keys = blocks * s.z as usize * s.b;
-        let mut out = s.n as usize * blocks * s.b;
-        if random.below(4) == 0 {
-            keys = (keys + random.below(3)).saturating_sub(1);
-        }
-        if random.below(4) == 0 {
-            out = (out + random.below(3)).saturating_sub(1);
-        }
-        match random.below(12) {
-            0 => s.n = random.byte(),
-            1 => s.z = random.byte(),
-            2 => s.r = random.byte(),
-            3 => s.counts.push(random.byte() % 20),
-            4 => s.counts.resize(s.counts.len() + 256, 1),
-            _ => {}
-        }
-        let (message, keys) = (random.bytes(length), random.bytes(keys));
-        refused += !compare(&s, &message, &keys, out, &mut random) as u32;
+    let schemes = all_schemes();
+    for scheme in &schemes {
+        // Mostly one block, for the time that it takes.
+        let before = [0, 0, 0, scheme.m][random.below(4)];
+        let length = before + 1 + random.below(scheme.m);
+        let call = Call::drawn(&mut random, scheme, length);
+        assert_eq!(compare::split(&call, &mut random), Ok(()));
     }
-    println!("20000 calls, {refused} refused");
-    assert!(refused > 5000);
+    println!("{} schemes", schemes.len());
+    assert_eq!(schemes.len(), 50_975);
 }
 
 #[test]
-fn prefixes() {
+fn every_prefix_of_every_scheme() {
     let mut random = Random::new(5);
-    let mut accepted = 0;
-    for _ in 0..20_000 {
-        let mut s = Scheme::drawn(&mut random, 840);
-        let length = match random.below(12) {
-            0 => 16385,
-            1 => usize::MAX - random.below(3),
-            _ => length(&mut random, s.m),
-        };
-        let mut d = s.counts[random.below(s.counts.len())] as usize;
-        match random.below(8) {
-            0 => d = random.below(20),
-            1 => d += 256,
-            _ => {}
+    let (mut calls, mut accepted) = (0, 0);
+    for scheme in all_schemes() {
+        let length = random.below(3 * scheme.m + 1);
+        let mut call = Call::drawn(&mut random, &scheme, length);
+        for d in 0..=17 {
+            call.d = d;
+            calls += 1;
+            accepted += compare::prefix(&call, &mut random).is_ok() as usize;
         }
-        let mut share = length.min(20_000).div_ceil(s.m) * s.b;
-        if random.below(5) == 0 {
-            share = (share + random.below(3)).saturating_sub(1);
-        }
-        if random.below(10) == 0 {
-            s.z = random.byte() % 20;
-        }
-        let share = vec![0; share];
-        let expected = reference::prefix(s.n, s.r, s.z, &s.counts, length, d, share.len());
-        assert_eq!(library::prefix(s.n, s.r, s.z, &s.counts, length, d, &share), expected);
-        accepted += expected.is_ok() as u32;
     }
-    println!("20000 calls, {accepted} accepted");
-    assert!(accepted > 5000);
+    println!("{calls} prefixes, {accepted} accepted");
+    assert!(accepted > 100_000 && accepted < calls / 2);
 }
 
 #[test]
 fn the_default_scheme() {
     let mut random = Random::new(6);
-    for length in [0, 1, 11, 12, 13, 24, 768, 769, 16384] {
-        let blocks = usize::div_ceil(length, 12);
-        let (message, keys) = (random.bytes(length), random.bytes(blocks * 6));
-        let expected = reference::split(5, 2, 1, &[5, 4, 3], &message, &keys, 30 * blocks).unwrap();
-        let mut out = vec![7; 30 * blocks];
-        assert_eq!(library::split_default(&message, &keys, &mut out), Ok(6 * blocks as u64));
-        assert_eq!(out, expected);
-        for d in 0..7 {
-            let share = &out[..6 * blocks];
-            assert_eq!(library::prefix_default(length, d, share), reference::prefix(5, 2, 1, &[5, 4, 3], length, d, share.len()));
+    let lengths: Vec<usize> = (0..=100).chain(760..=780).chain([1535, 1536, 1537, 16380, 16383, 16384]).collect();
+    for &length in &lengths {
+        let mut call = Call::drawn(&mut random, &Scheme::default(), length);
+        assert_eq!(compare::split(&call, &mut random), Ok(()));
+        for d in 3..=5 {
+            call.d = d;
+            assert_eq!(compare::prefix(&call, &mut random), Ok(()));
         }
     }
-    let mut out = vec![7; 30];
-    assert_eq!(library::split_default(&[1; 12], &[1; 5], &mut out), Err(8));
-    assert_eq!(library::split_default(&[1; 12], &[1; 6], &mut out[..29]), Err(10));
-    assert_eq!(library::split_default(&[1; 16385], &[1; 6], &mut out), Err(5));
-    assert_eq!(out, vec![7; 30]);
+    println!("{} messages, twice", lengths.len());
 }

@@ -1,0 +1,136 @@
+/*
+ * Secret sharing by staircase polynomials over bytes: the C boundary of the proved library.
+ * Link with target/staticlib/libexports.a, which `rt staticlib exports` writes (x86-64).
+ *
+ * A scheme is n parties, of which r may be absent and z may collude, and a falling list of counts:
+ * the numbers of parties from which a message can be reconstructed. With d parties, d one of the
+ * counts, each sends the first m / (d - z) x N bytes of its share, its prefix. Here m is the length of
+ * a block, b = m / (n - r - z) the number of its rows, and N = L / m, rounded up, the number of blocks
+ * of a message of L bytes. The last block is padded with zeros. L is not in the shares: the caller
+ * keeps it.
+ *
+ * Every call has a form whose name ends in `_default`, without the scheme's parameters, for the
+ * scheme n 5, r 2, z 1, counts 5, 4, 3.
+ *
+ * Every call returns, whatever it is given. `refusal` is 0 when it was accepted; otherwise it is the
+ * first of these numbers that applies, every other field is 0, and nothing was written:
+ *
+ *    1  n is below 2 or above 16
+ *    2  z is 0, or r + z is n or more
+ *    3  the counts are none or more than 8, do not fall strictly, start above n, or do not end at n - r
+ *    4  the block length m is above 840
+ *    5  the message is longer than 16,384 bytes
+ *    6  the number of parties to read from, d, is not one of the counts
+ *    7  the parties do not rise strictly, or one is not from 1 to n
+ *    8  the keys do not have N x z x b bytes
+ *    9  the share does not have N x b bytes, or the prefixes together d x m / (d - z) x N
+ *   10  the output does not have the length that the call writes
+ *
+ * What the caller owes, since nothing here can check it: a pointer is not NULL, not even beside the
+ * length 0; as many bytes as its length says stand behind it, and no other thread changes them during
+ * the call; `out` does not overlap what the call reads. Keys are to be drawn evenly at random, kept as
+ * secret as the message, and used for one message only: the library draws none.
+ */
+#ifndef SHARING_H
+#define SHARING_H
+
+#include <stddef.h>
+#include <stdint.h>
+
+#ifdef __cplusplus
+extern "C" {
+#endif
+
+/* An accepted scheme: the length m of a block in bytes, and the number b of its rows. */
+typedef struct {
+    uint64_t refusal;
+    uint64_t block;
+    uint64_t rows;
+} sharing_scheme;
+
+/* What `value` is, each call says. */
+typedef struct {
+    uint64_t refusal;
+    uint64_t value;
+} sharing_answer;
+
+/* The weight of the party at place i of the list (from 0) at degree e is weights[16 * i + e]. */
+typedef struct {
+    uint64_t refusal;
+    uint8_t weights[256];
+} sharing_basis_answer;
+
+/* Checks a scheme and answers its block length and rows. Refusals 1 to 4. */
+sharing_scheme sharing_check(uint8_t n, uint8_t r, uint8_t z, const uint8_t *counts, size_t counts_length);
+
+/* The same of the default scheme, which is accepted: 12 and 6. */
+sharing_scheme sharing_check_default(void);
+
+/*
+ * Splits a message: writes the n shares of N x b bytes into `out`, one after another, party 1 first.
+ * `value` is the length of one share. Refusals 1 to 5, 8 and 10 (`out` has n x N x b bytes).
+ */
+sharing_answer sharing_split(
+    uint8_t n, uint8_t r, uint8_t z, const uint8_t *counts, size_t counts_length,
+    const uint8_t *message, size_t message_length, const uint8_t *keys, size_t keys_length,
+    uint8_t *out, size_t out_length);
+
+/* The same with the default scheme. Refusals 5, 8 and 10. */
+sharing_answer sharing_split_default(
+    const uint8_t *message, size_t message_length, const uint8_t *keys, size_t keys_length,
+    uint8_t *out, size_t out_length);
+
+/*
+ * What one party sends when d parties are read from: the first `value` bytes of its share, which is
+ * lent whole. Refusals 1 to 6 and 9.
+ */
+sharing_answer sharing_prefix(
+    uint8_t n, uint8_t r, uint8_t z, const uint8_t *counts, size_t counts_length,
+    size_t message_length, size_t d, const uint8_t *share, size_t share_length);
+
+/* The same with the default scheme. Refusals 5, 6 and 9. */
+sharing_answer sharing_prefix_default(size_t message_length, size_t d, const uint8_t *share, size_t share_length);
+
+/*
+ * The Lagrange basis of d parties, which are bytes in rising order: row i of the table has the
+ * coefficients of the polynomial of degree below d that is 1 at the i-th party and 0 at the others.
+ * Entries beyond d are 0. Refusals 1 to 4, 6 and 7.
+ */
+sharing_basis_answer sharing_basis(
+    uint8_t n, uint8_t r, uint8_t z, const uint8_t *counts, size_t counts_length,
+    const uint8_t *parties, size_t parties_length);
+
+/* The same with the default scheme. Refusals 6 and 7. */
+sharing_basis_answer sharing_basis_default(const uint8_t *parties, size_t parties_length);
+
+/*
+ * Reconstructs a message of message_length bytes into `out` from the prefixes of the parties, which
+ * are bytes in rising order; the prefixes stand one after another in the parties' order. `value` is
+ * the number of prefix bytes used, d x m / (d - z) x N. Prefixes of the right length always open: the
+ * call cannot tell a false byte from a true one. Refusals 1 to 7, 9 and 10 (`out` has message_length
+ * bytes).
+ */
+sharing_answer sharing_reconstruct(
+    uint8_t n, uint8_t r, uint8_t z, const uint8_t *counts, size_t counts_length,
+    size_t message_length, const uint8_t *parties, size_t parties_length,
+    const uint8_t *prefixes, size_t prefixes_length, uint8_t *out, size_t out_length);
+
+/* The same with the default scheme. Refusals 5 to 7, 9 and 10. */
+sharing_answer sharing_reconstruct_default(
+    size_t message_length, const uint8_t *parties, size_t parties_length,
+    const uint8_t *prefixes, size_t prefixes_length, uint8_t *out, size_t out_length);
+
+/* The product of two bytes as FIPS 197 has it, by tables. Every byte is accepted. */
+uint8_t gf256_mul(uint8_t a, uint8_t b);
+
+/* The same product, by shifting. */
+uint8_t gf256_mul_by_shifting(uint8_t a, uint8_t b);
+
+/* The byte whose product with a is 1; 0 for 0. */
+uint8_t gf256_inverse(uint8_t a);
+
+#ifdef __cplusplus
+}
+#endif
+
+#endif

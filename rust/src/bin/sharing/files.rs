@@ -1,0 +1,140 @@
+//! Reading files, and writing files that appear together or not at all.
+
+use crate::failure::Failure;
+use std::ffi::OsString;
+use std::fmt;
+use std::fs::{self, DirBuilder, File, OpenOptions};
+use std::io::{self, ErrorKind, Read, Write};
+use std::os::unix::fs::{DirBuilderExt, OpenOptionsExt};
+use std::path::{Path, PathBuf};
+
+/// No message, key file or share that the library accepts is nearly as long. Reading stops one byte
+/// after it, so that an endless file ends in a refusal too.
+pub const LONGEST: usize = 1 << 20;
+
+/// A file that was read, cut after `LONGEST` and one.
+pub struct Input {
+    path: PathBuf,
+    pub bytes: Vec<u8>,
+}
+
+pub fn read(path: PathBuf) -> Result<Input, Failure> {
+    let mut bytes = Vec::new();
+    let read = File::open(&path).and_then(|file| file.take(LONGEST as u64 + 1).read_to_end(&mut bytes));
+    match read {
+        Ok(_) => Ok(Input { path, bytes }),
+        Err(error) => Err(failed("read", &path, &error)),
+    }
+}
+
+/// How long it is.
+impl fmt::Display for Input {
+    fn fmt(&self, f: &mut fmt::Formatter) -> fmt::Result {
+        let (path, length) = (self.path.display(), self.bytes.len());
+        if length > LONGEST {
+            write!(f, "{path} has more than {LONGEST} bytes")
+        } else {
+            write!(f, "{path} has {length} bytes")
+        }
+    }
+}
+
+fn failed(action: &str, path: &Path, error: &io::Error) -> Failure {
+    Failure::File(format!("cannot {action} {}: {error}", path.display()))
+}
+
+/// Files in one folder. What was made is removed again unless `keep` is reached. Only the owner may
+/// read them: they are shares, or a message.
+pub struct Output {
+    folder: PathBuf,
+    new_folder: bool,
+    made: Vec<PathBuf>,
+}
+
+impl Output {
+    /// Into a folder, which is made where it does not exist.
+    pub fn in_folder(folder: &Path) -> Result<Output, Failure> {
+        let new_folder = match DirBuilder::new().mode(0o700).create(folder) {
+            Ok(()) => true,
+            Err(error) if error.kind() == ErrorKind::AlreadyExists && folder.is_dir() => false,
+            Err(error) => return Err(failed("make the folder", folder, &error)),
+        };
+        Ok(Output { folder: folder.to_path_buf(), new_folder, made: Vec::new() })
+    }
+
+    /// Writes one file, into a folder that exists.
+    pub fn one_file(path: &Path, bytes: &[u8]) -> Result<Output, Failure> {
+        let Some(name) = path.file_name() else {
+            return Err(Failure::Usage(format!("{} is not the name of a file", path.display())));
+        };
+        let folder = path.with_file_name("");
+        let mut output = Output { folder, new_folder: false, made: Vec::new() };
+        output.write(&[(name.to_os_string(), bytes)])?;
+        Ok(output)
+    }
+
+    /// Writes all files under other names first, and gives them their names only when all are written.
+    /// A name that is taken already is seen before anything is written.
+    pub fn write(&mut self, files: &[(OsString, &[u8])]) -> Result<(), Failure> {
+        for (name, _) in files {
+            free(&self.folder.join(name))?;
+        }
+        for (name, bytes) in files {
+            self.write_part(&self.part(name), bytes)?;
+        }
+        for (name, _) in files {
+            self.give_name(name)?;
+        }
+        Ok(())
+    }
+
+    /// The name of a file that is not whole yet; it is no other process's.
+    fn part(&self, name: &OsString) -> PathBuf {
+        let mut part = OsString::from(".");
+        part.push(name);
+        part.push(format!(".{}.part", std::process::id()));
+        self.folder.join(part)
+    }
+
+    fn write_part(&mut self, path: &Path, bytes: &[u8]) -> Result<(), Failure> {
+        let opened = OpenOptions::new().write(true).create_new(true).mode(0o600).open(path);
+        let mut file = opened.map_err(|error| failed("make", path, &error))?;
+        self.made.push(path.to_path_buf());
+        let written = file.write_all(bytes).and_then(|()| file.sync_all());
+        written.map_err(|error| failed("write", path, &error))
+    }
+
+    fn give_name(&mut self, name: &OsString) -> Result<(), Failure> {
+        let (part, path) = (self.part(name), self.folder.join(name));
+        free(&path)?;
+        fs::rename(&part, &path).map_err(|error| failed("write", &path, &error))?;
+        self.made.retain(|made| *made != part);
+        self.made.push(path);
+        Ok(())
+    }
+
+    pub fn keep(mut self) {
+        self.made.clear();
+        self.new_folder = false;
+    }
+}
+
+impl Drop for Output {
+    fn drop(&mut self) {
+        // Nothing more can be done about a file that cannot be removed.
+        for path in &self.made {
+            let _ = fs::remove_file(path);
+        }
+        if self.new_folder {
+            let _ = fs::remove_dir(&self.folder);
+        }
+    }
+}
+
+fn free(path: &Path) -> Result<(), Failure> {
+    match fs::symlink_metadata(path) {
+        Ok(_) => Err(Failure::File(format!("{} exists already, and nothing is overwritten", path.display()))),
+        Err(error) if error.kind() == ErrorKind::NotFound => Ok(()),
+        Err(error) => Err(failed("write", path, &error)),
+    }
+}

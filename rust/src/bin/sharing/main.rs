@@ -1,0 +1,19 @@
+//! The program `sharing`: splits a file into shares, cuts prefixes and opens the file again. All that
+//! is secret sharing is done by the proved library; this program reads files, names refusals in words
+//! and writes files.
+
+mod arguments;
+mod commands;
+mod failure;
+mod files;
+mod help;
+mod scheme;
+
+use std::process::ExitCode;
+
+fn main() -> ExitCode {
+    match commands::run(std::env::args_os().skip(1).collect()) {
+        Ok(()) => ExitCode::SUCCESS,
+        Err(failure) => failure.tell(),
+    }
+}

@@ -1,0 +1,82 @@
+//! A scheme as it is given on the command line, and the lengths that follow from it.
+
+use crate::arguments::{byte_list, usage, Arguments};
+use crate::failure::Failure;
+use gilunavoi::library;
+use std::ffi::OsStr;
+use std::fmt;
+
+pub struct Scheme {
+    pub n: u8,
+    pub r: u8,
+    pub z: u8,
+    pub counts: Vec<u8>,
+}
+
+/// The lengths of an accepted scheme's block: m bytes in b rows.
+pub struct Block {
+    pub bytes: usize,
+    pub rows: usize,
+    z: usize,
+}
+
+/// The scheme of the library's calls without one.
+impl Default for Scheme {
+    fn default() -> Scheme {
+        Scheme { n: 5, r: 2, z: 1, counts: vec![5, 4, 3] }
+    }
+}
+
+impl Scheme {
+    /// What follows `--scheme`: N,R,Z and the counts.
+    fn from_list(word: &OsStr) -> Result<Scheme, Failure> {
+        match byte_list(word)?[..] {
+            [n, r, z, ref counts @ ..] => Ok(Scheme { n, r, z, counts: counts.to_vec() }),
+            _ => usage(format!("--scheme needs N,R,Z and the counts, not '{}'", word.to_string_lossy())),
+        }
+    }
+
+    pub fn of(arguments: &Arguments) -> Result<Scheme, Failure> {
+        arguments.option("--scheme").map_or_else(|| Ok(Scheme::default()), Scheme::from_list)
+    }
+
+    /// Asks the library whether the scheme is accepted.
+    pub fn check(&self) -> Result<Block, Failure> {
+        match library::check(self.n, self.r, self.z, &self.counts) {
+            Ok((m, b)) => Ok(Block { bytes: m as usize, rows: b as usize, z: self.z as usize }),
+            Err(number) => Err(Failure::Refused(number, format!("the scheme is {self}"))),
+        }
+    }
+}
+
+impl fmt::Display for Scheme {
+    fn fmt(&self, f: &mut fmt::Formatter) -> fmt::Result {
+        let counts: Vec<String> = self.counts.iter().map(u8::to_string).collect();
+        write!(f, "N {}, R {}, Z {}, counts {}", self.n, self.r, self.z, counts.join(","))
+    }
+}
+
+/// The lengths are those of a message that is not refused for its own length; a number that anyone
+/// might type could be too large to multiply.
+impl Block {
+    fn blocks(&self, message: usize) -> usize {
+        message.div_ceil(self.bytes)
+    }
+
+    pub fn keys(&self, message: usize) -> usize {
+        self.blocks(message) * self.z * self.rows
+    }
+
+    pub fn share(&self, message: usize) -> usize {
+        self.blocks(message) * self.rows
+    }
+
+    /// The bytes of one block in a prefix when d parties are read from, d one of the counts.
+    pub fn prefix_of_block(&self, d: usize) -> usize {
+        self.bytes / (d - self.z)
+    }
+
+    pub fn prefix(&self, message: usize, d: usize) -> usize {
+        self.blocks(message) * self.prefix_of_block(d)
+    }
+}

@@ -1,0 +1,346 @@
+//! The program `sharing`, run as its users run it, in a folder of its own.
+
+use std::fs;
+use std::path::PathBuf;
+use std::process::{Command, Output};
+
+/// A folder that is removed at the end.
+struct Folder(PathBuf);
+
+impl Folder {
+    fn new(test: &str) -> Folder {
+        let path = std::env::temp_dir().join(format!("sharing-{test}-{}", std::process::id()));
+        fs::create_dir(&path).expect("a new folder");
+        Folder(path)
+    }
+
+    /// Runs the program with the words of a line.
+    fn run(&self, line: &str) -> Output {
+        let program = env!("CARGO_BIN_EXE_sharing");
+        Command::new(program).args(line.split(' ')).current_dir(&self.0).output().expect("the program runs")
+    }
+
+    /// What it says where it succeeds.
+    fn says(&self, line: &str) -> String {
+        let output = self.run(line);
+        assert_eq!(text(&output.stderr), "", "{line}");
+        assert_eq!(output.status.code(), Some(0), "{line}");
+        text(&output.stdout)
+    }
+
+    /// What it says where it fails, and that it leaves the folder as it was.
+    fn fails(&self, line: &str, status: i32) -> String {
+        let before = self.names();
+        let output = self.run(line);
+        assert_eq!(output.status.code(), Some(status), "{line}: {}", text(&output.stderr));
+        assert_eq!(text(&output.stdout), "", "{line}");
+        assert_eq!(self.names(), before, "{line}: nothing is left behind");
+        let said = text(&output.stderr);
+        assert!(said.starts_with("sharing: ") && !said.contains("panicked"), "{line}: {said}");
+        said
+    }
+
+    fn refuses(&self, line: &str, number: u64, detail: &str) {
+        let said = self.fails(line, 1);
+        assert!(said.starts_with(&format!("sharing: refused ({number}): ")), "{line}: {said}");
+        assert!(said.contains(detail), "{line}: {said}");
+    }
+
+    fn write(&self, name: &str, length: usize) {
+        let bytes: Vec<u8> = (0..length).map(|place| (place * 37 + length) as u8).collect();
+        fs::write(self.0.join(name), bytes).expect("a written file");
+    }
+
+    fn bytes(&self, name: &str) -> Vec<u8> {
+        fs::read(self.0.join(name)).expect("a file")
+    }
+
+    /// All files, also those in folders within.
+    fn names(&self) -> Vec<PathBuf> {
+        let mut names = Vec::new();
+        let mut folders = vec![self.0.clone()];
+        while let Some(folder) = folders.pop() {
+            for entry in fs::read_dir(folder).expect("a folder") {
+                let path = entry.expect("an entry").path();
+                if path.is_dir() {
+                    folders.push(path.clone());
+                }
+                names.push(path);
+            }
+        }
+        names.sort();
+        names
+    }
+}
+
+impl Drop for Folder {
+    fn drop(&mut self) {
+        let _ = fs::remove_dir_all(&self.0);
+    }
+}
+
+fn text(bytes: &[u8]) -> String {
+    String::from_utf8(bytes.to_vec()).expect("text")
+}
+
+/// Splits a message, and opens it from each of the lists of parties.
+fn round_trip(folder: &Folder, option: &str, length: usize, keys: usize, readings: &[&[usize]]) {
+    folder.write("message", length);
+    folder.write("keys", keys);
+    let said = folder.says(&format!("split {option}message keys shares"));
+    assert!(said.contains(&format!("length, {length}:")), "{said}");
+    for parties in readings {
+        let mut line = format!("reconstruct {option}--length {length} opened");
+        for party in *parties {
+            let d = parties.len();
+            folder.says(&format!("prefix {option}--length {length} --readers {d} shares/share-{party} part-{party}"));
+            line += &format!(" {party}=part-{party}");
+        }
+        let sent: usize = parties.iter().map(|party| folder.bytes(&format!("part-{party}")).len()).sum();
+        let said = folder.says(&line);
+        assert!(said.contains(&format!(" {sent} bytes were fetched from {} parties", parties.len())), "{said}");
+        assert_eq!(folder.bytes("opened"), folder.bytes("message"));
+        fs::remove_file(folder.0.join("opened")).expect("removed");
+        for party in *parties {
+            fs::remove_file(folder.0.join(format!("part-{party}"))).expect("removed");
+        }
+    }
+    fs::remove_dir_all(folder.0.join("shares")).expect("removed");
+}
+
+#[test]
+fn round_trips() {
+    let folder = Folder::new("round");
+    // The parties may be named in any order.
+    let readings: [&[usize]; 4] = [&[1, 2, 3, 4, 5], &[5, 1, 4, 2], &[2, 4, 5], &[3, 2, 1]];
+    for (length, keys) in [(100, 54), (0, 0), (12, 6), (16384, 8196)] {
+        round_trip(&folder, "", length, keys, &readings);
+    }
+    round_trip(&folder, "--scheme 7,3,2,7,5,4 ", 61, 90, &[&[7, 6, 5, 4, 3, 2, 1], &[1, 3, 5, 6, 7], &[2, 4, 6, 7]]);
+    assert_eq!(folder.names().len(), 2, "the message and the keys");
+}
+
+/// Without a scheme the program takes the one that the library takes.
+#[test]
+fn the_default_scheme() {
+    let folder = Folder::new("default");
+    folder.write("message", 25);
+    folder.write("keys", 18);
+    folder.says("split message keys shares");
+    let shares: Vec<u8> = (1..=5).flat_map(|party| folder.bytes(&format!("shares/share-{party}"))).collect();
+    let mut expected = vec![0; 90];
+    let answer = gilunavoi::library::split_default(&folder.bytes("message"), &folder.bytes("keys"), &mut expected);
+    assert_eq!((answer, shares), (Ok(18), expected));
+}
+
+#[test]
+fn files_are_the_owners_alone() {
+    use std::os::unix::fs::PermissionsExt;
+    let folder = Folder::new("owner");
+    folder.write("message", 5);
+    folder.write("keys", 6);
+    folder.says("split message keys shares");
+    let mode = |name: &str| fs::metadata(folder.0.join(name)).expect("a file").permissions().mode() & 0o777;
+    assert_eq!((mode("shares"), mode("shares/share-3")), (0o700, 0o600));
+}
+
+#[test]
+fn schemes() {
+    let folder = Folder::new("schemes");
+    let sheet = "N 7, R 4, Z 1, counts 7,4,3\n\
+        A block has 6 bytes in 3 rows, and takes 3 key bytes.\n\
+        Bytes of a block to fetch:\n\
+        parties  from each  in all\n      \
+        7          1       7\n      \
+        4          2       8\n      \
+        3          3       9\n";
+    assert_eq!(folder.says("scheme 7 4 1 7,4,3"), sheet);
+    assert_eq!(folder.says("scheme"), folder.says("scheme 5 2 1 5,4,3"));
+    for (scheme, number) in [
+        ("1 0 1 1", 1),
+        ("17 2 1 17,15", 1),
+        ("5 2 0 5,4,3", 2),
+        ("5 255 1 5,4,3", 2),
+        ("5 2 1 5,4", 3),
+        ("5 2 1 4,5,3", 3),
+        ("10 4 1 10,9,8,6", 4),
+    ] {
+        folder.refuses(&format!("scheme {scheme}"), number, "the scheme is N ");
+    }
+    folder.write("message", 3);
+    folder.refuses("split --scheme 5,2,1 message message shares", 3, "counts ");
+    folder.refuses("prefix --scheme 5,5,1,5 --length 3 --readers 5 message out", 2, "R 5");
+    folder.refuses("reconstruct --scheme 0,5,1,5 --length 3 out 1=message", 1, "N 0");
+}
+
+#[test]
+fn refusals() {
+    let folder = Folder::new("refusals");
+    for (name, length) in [("message", 25), ("keys", 18), ("short", 17), ("long", 16385), ("endless", 1 << 21)] {
+        folder.write(name, length);
+    }
+    folder.refuses("split long keys shares", 5, "long has 16385 bytes");
+    folder.refuses("split endless keys shares", 5, "endless has more than 1048576 bytes");
+    folder.refuses("split message short shares", 8, "needs 18 bytes, and short has 17 bytes");
+    folder.refuses("split message endless shares", 8, "needs 18 bytes, and endless has more than 1048576 bytes");
+    folder.says("split message keys shares");
+
+    let huge = usize::MAX;
+    folder.refuses(&format!("prefix --length {huge} --readers 4 shares/share-1 out"), 5, &format!("{huge}"));
+    folder.refuses("prefix --length 25 --readers 2 shares/share-1 out", 6, "--readers is 2, and the scheme is N 5");
+    folder.refuses("prefix --length 25 --readers 4 short out", 9, "a share has 18 bytes, and short has 17 bytes");
+
+    for party in 1..=5 {
+        folder.says(&format!("prefix --length 25 --readers 4 shares/share-{party} p{party}"));
+    }
+    let all = "1=p1 2=p2 3=p3 4=p4";
+    folder.refuses(&format!("reconstruct --length {huge} out {all}"), 5, &format!("{huge}"));
+    folder.refuses("reconstruct --length 25 out 1=p1 2=p2", 6, "2 parties are given");
+    folder.refuses("reconstruct --length 25 out", 6, "0 parties are given");
+    folder.refuses("reconstruct --length 25 out 1=p1 4=p2 3=p3 4=p4", 7, "[1, 3, 4, 4]");
+    folder.refuses("reconstruct --length 25 out 0=p1 2=p2 3=p3 4=p4", 7, "[0, 2, 3, 4]");
+    folder.refuses("reconstruct --length 25 out 1=p1 2=p2 3=p3 6=p4", 7, "[1, 2, 3, 6]");
+    folder.refuses(
+        "reconstruct --length 25 out 1=p1 2=shares/share-2 3=p3 4=p4",
+        9,
+        "has 12 bytes, and shares/share-2 has 18 bytes",
+    );
+}
+
+/// The joined prefixes have the right length, and yet two of them are not what a party sends.
+#[test]
+fn one_prefix_too_long_and_one_too_short() {
+    let folder = Folder::new("odd");
+    for (name, length) in [("a", 12), ("b", 13), ("c", 11), ("d", 12)] {
+        folder.write(name, length);
+    }
+    folder.refuses("reconstruct --length 25 out 1=a 2=b 3=c 4=d", 9, "has 12 bytes, and b has 13 bytes");
+}
+
+#[test]
+fn nothing_is_overwritten_or_left_behind() {
+    let folder = Folder::new("left");
+    folder.write("message", 25);
+    folder.write("keys", 18);
+    fs::create_dir(folder.0.join("shares")).expect("a folder");
+    folder.write("shares/share-2", 4);
+    let before = folder.bytes("shares/share-2");
+    let said = folder.fails("split message keys shares", 1);
+    assert!(said.contains("shares/share-2 exists already"), "{said}");
+    assert_eq!(folder.bytes("shares/share-2"), before);
+
+    // A link to nowhere is a name that is taken too.
+    std::os::unix::fs::symlink("nowhere", folder.0.join("link")).expect("a link");
+    folder.fails("prefix --length 25 --readers 3 keys link", 1);
+    let said = folder.fails("prefix --length 25 --readers 3 keys message", 1);
+    assert!(said.contains("message exists already"), "{said}");
+    assert!(folder.fails("split message keys message", 1).contains("cannot make the folder message"));
+    assert!(folder.fails("split message keys no/folder", 1).contains("cannot make the folder no/folder"));
+    assert!(folder.fails("prefix --length 25 --readers 3 keys no/out", 1).contains("no/"));
+}
+
+/// Runs a line of the shell, in which `$0` is the program, that ends in a failure.
+fn shell_fails(folder: &Folder, line: &str, reason: &str) {
+    let mut shell = Command::new("sh");
+    let shell = shell.args(["-c", line, env!("CARGO_BIN_EXE_sharing")]).current_dir(&folder.0);
+    let output = shell.output().expect("a shell");
+    assert_eq!(output.status.code(), Some(1), "{line}");
+    assert!(text(&output.stderr).contains(reason), "{line}: {}", text(&output.stderr));
+}
+
+#[test]
+fn a_failure_in_the_middle() {
+    let folder = Folder::new("middle");
+    folder.write("message", 16384);
+    folder.write("keys", 8196);
+    let left = folder.names();
+
+    // A share of 8,196 bytes does not fit into a file of at most 8 × 512 bytes.
+    let limited = "trap '' XFSZ; ulimit -f 8; exec \"$0\" split message keys shares";
+    shell_fails(&folder, limited, "cannot write shares/.share-1.");
+    assert_eq!(folder.names(), left);
+
+    // Nobody learns the message's length where standard output is full, so the shares go again.
+    shell_fails(&folder, "exec \"$0\" split message keys shares >/dev/full", "cannot write to standard output");
+    assert_eq!(folder.names(), left);
+
+    // The third of the names that the program writes under is taken: two files are written before it.
+    let taken = "mkdir shares; : >shares/.share-3.$$.part; exec \"$0\" split message keys shares";
+    shell_fails(&folder, taken, "cannot make shares/.share-3.");
+    assert_eq!(folder.names().len(), left.len() + 2, "the folder and the file that stood in the way");
+}
+
+#[test]
+fn unreadable_files() {
+    let folder = Folder::new("unreadable");
+    folder.write("keys", 18);
+    assert!(folder.fails("split absent keys shares", 1).contains("cannot read absent: "));
+    assert!(folder.fails("split . keys shares", 1).contains("cannot read .: "));
+    assert!(folder.fails("split keys . shares", 1).contains("cannot read .: "));
+    assert!(folder.fails("prefix --length 3 --readers 3 absent out", 1).contains("cannot read absent: "));
+    assert!(folder.fails("reconstruct --length 3 out 1=absent", 1).contains("cannot read absent: "));
+}
+
+#[test]
+fn help() {
+    let folder = Folder::new("help");
+    let all = folder.says("--help");
+    for name in ["scheme", "split", "prefix", "reconstruct"] {
+        let one = folder.says(&format!("{name} --help"));
+        assert!(one.starts_with(&format!("sharing {name} ")), "{one}");
+        assert!(all.contains(&format!("sharing {name} ")), "{all}");
+    }
+    for said in [all, folder.says("split message --help")] {
+        assert!(said.contains("never draws keys") && said.contains("one message only"), "{said}");
+    }
+}
+
+#[test]
+fn bad_usage() {
+    let folder = Folder::new("usage");
+    for line in [
+        "",
+        "help",
+        "--version",
+        "scheme 5 2 1",
+        "scheme 300 2 1 5,4,3",
+        "scheme 5 2 1 5,4,",
+        "scheme 5 -2 1 5",
+        "scheme +5 2 1 5",
+        "scheme --scheme 5,2,1,5",
+        "split message keys",
+        "split message keys shares more",
+        "split --scheme 5,2 message keys shares",
+        "split --scheme 5,2,x,5 message keys shares",
+        "split --scheme 5,2,1,256 message keys shares",
+        "split --scheme 5,2,1,5 --scheme 5,2,1,5 message keys shares",
+        "split message keys shares --scheme",
+        "split --length 5 message keys shares",
+        "prefix --length 25 share out",
+        "prefix --readers 3 share out",
+        "prefix --length 25 --readers three share out",
+        "prefix --length 99999999999999999999999 --readers 3 share out",
+        "reconstruct out 1=p1",
+        "reconstruct --length 25",
+        "reconstruct --length 25 out p1",
+        "reconstruct --length 25 out 256=p1",
+        "reconstruct --length 25 out =p1",
+    ] {
+        assert!(folder.fails(line, 2).contains("sharing --help"), "{line}");
+    }
+    assert_eq!(Command::new(env!("CARGO_BIN_EXE_sharing")).output().expect("it runs").status.code(), Some(2));
+}
+
+/// File names need not be text.
+#[test]
+fn any_file_name() {
+    use std::os::unix::ffi::OsStrExt;
+    let folder = Folder::new("names");
+    folder.write("keys", 0);
+    let name = std::ffi::OsStr::from_bytes(b"\xff=\xfe");
+    fs::write(folder.0.join(name), b"").expect("a file");
+    let mut command = Command::new(env!("CARGO_BIN_EXE_sharing"));
+    let command = command.arg("split").args([name, "keys".as_ref(), "--".as_ref(), "--shares".as_ref()]);
+    assert_eq!(command.current_dir(&folder.0).output().expect("it runs").status.code(), Some(0));
+    assert!(folder.0.join("--shares/share-5").exists());
+}

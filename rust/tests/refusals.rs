@@ -1,0 +1,259 @@
+//! Refusals: each alone, and every two and three at once, for every call. The first in the order of the rules' table is
+//! the answer, and nothing is written.
+
+use gilunavoi::cases::{Call, Scheme, BAD_COUNTS};
+use gilunavoi::compare::{self, Compare};
+use gilunavoi::random::Random;
+
+/// The refusal that a change of an accepted scheme or call leads to, and the change.
+type SchemeFault = (u64, fn(&mut Scheme));
+type Fault = (u64, fn(&mut Call));
+
+const SIZES: [SchemeFault; 10] = [
+    (1, |s| s.n = 0),
+    (1, |s| s.n = 1),
+    (1, |s| s.n = 17),
+    (1, |s| s.n = 255),
+    (2, |s| s.z = 0),
+    (2, |s| s.z = s.n - s.r),
+    (2, |s| s.z = 255),
+    (2, |s| s.r = s.n),
+    (2, |s| s.r = 255),
+    // As bytes, r + z would be 0.
+    (2, |s| s.r = 0u8.wrapping_sub(s.z)),
+];
+
+/// The smallest m above 840, the rules' own example, and the greatest m of all.
+const BLOCKS: [SchemeFault; 3] = [
+    (4, |s| s.set(14, 7, 1, vec![14, 12, 7])),
+    (4, |s| s.set(10, 4, 1, vec![10, 9, 8, 6])),
+    (4, |s| s.set(16, 10, 1, vec![14, 12, 10, 9, 8, 6])),
+];
+
+/// Lengths of a message that is there. Some would pass modulo 2^16.
+const MESSAGES: [Fault; 4] = [
+    (5, |c| c.length = 16385),
+    (5, |c| c.length = 16384 + c.scheme.m),
+    (5, |c| c.length = 1 << 16),
+    (5, |c| c.length += 1 << 16),
+];
+
+/// Lengths that are only told. Some would pass modulo 2^32, or if the blocks were counted modulo 2^64.
+const LENGTHS: [Fault; 7] = [
+    (5, |c| c.length = 16385),
+    (5, |c| c.length += 1 << 16),
+    (5, |c| c.length += 1 << 32),
+    (5, |c| c.length += 1 << 63),
+    (5, |c| c.length = (usize::MAX - c.scheme.m).saturating_add(2)),
+    (5, |c| c.length = usize::MAX - 1),
+    (5, |c| c.length = usize::MAX),
+];
+
+/// For the prefix: numbers that are no count.
+const COUNTS: [Fault; 7] = [
+    (6, |c| c.d = 0),
+    (6, |c| c.d = (c.scheme.n - c.scheme.r - 1) as usize),
+    (6, |c| c.d = c.scheme.z as usize),
+    (6, |c| c.d = c.scheme.n as usize + 1),
+    (6, |c| c.d += 256),
+    (6, |c| c.d += 1 << 32),
+    (6, |c| c.d = usize::MAX),
+];
+
+/// For the readers: lists that have not as many parties as a count, and lists of parties that do not rise in 1 to n.
+const PARTIES: [Fault; 12] = [
+    (6, |c| c.parties.clear()),
+    (6, |c| c.parties = (1..c.scheme.n - c.scheme.r).collect()),
+    (6, |c| c.parties = (1..=c.scheme.z).collect()),
+    (6, |c| c.parties = (1..=c.scheme.n + 1).collect()),
+    (6, |c| c.parties.resize(c.parties.len() + 256, 1)),
+    (6, |c| c.parties = (0..=255).collect()),
+    (7, |c| c.parties.swap(0, 1)),
+    (7, |c| c.parties.reverse()),
+    (7, |c| c.parties[1] = c.parties[0]),
+    (7, |c| c.parties[0] = 0),
+    (7, |c| *c.parties.last_mut().unwrap() = c.scheme.n + 1),
+    (7, |c| *c.parties.last_mut().unwrap() = 255),
+];
+
+fn one_less(length: usize) -> usize {
+    length.checked_sub(1).unwrap_or(256)
+}
+
+const KEYS: [Fault; 4] = [
+    (8, |c| c.keys += 1),
+    (8, |c| c.keys = one_less(c.keys)),
+    (8, |c| c.keys += c.scheme.z as usize * c.scheme.b),
+    (8, |c| c.keys = if c.keys == 0 { 1 } else { 0 }),
+];
+
+const SHARE: [Fault; 4] = [
+    (9, |c| c.share += 1),
+    (9, |c| c.share = one_less(c.share)),
+    (9, |c| c.share += c.scheme.b),
+    (9, |c| c.share = if c.share == 0 { 1 } else { 0 }),
+];
+
+const PREFIXES: [Fault; 4] = [
+    (9, |c| c.prefixes += 1),
+    (9, |c| c.prefixes = one_less(c.prefixes)),
+    (9, |c| c.prefixes += c.d),
+    (9, |c| c.prefixes = if c.prefixes == 0 { 1 } else { 0 }),
+];
+
+const OUTPUTS: [Fault; 3] = [
+    (10, |c| (c.shares, c.message) = (c.shares + 1, c.message + 1)),
+    (10, |c| (c.shares, c.message) = (one_less(c.shares), one_less(c.message))),
+    (10, |c| (c.shares, c.message) = (c.shares + c.scheme.b, c.message + c.scheme.m)),
+];
+
+#[derive(Clone, Copy)]
+enum Change {
+    Scheme(fn(&mut Scheme)),
+    Call(fn(&mut Call)),
+}
+
+/// Refusals 1 to 4, and then those of the call, in the order in which the rules look for them.
+fn faults(of_the_call: &[&[Fault]]) -> Vec<(u64, Change)> {
+    let counts = BAD_COUNTS.map(|change| (3, change));
+    let of_the_scheme = SIZES.into_iter().chain(counts).chain(BLOCKS);
+    let mut faults: Vec<_> = of_the_scheme.map(|(number, change)| (number, Change::Scheme(change))).collect();
+    for part in of_the_call {
+        faults.extend(part.iter().map(|&(number, change)| (number, Change::Call(change))));
+    }
+    assert!(faults.is_sorted_by_key(|&(number, _)| number));
+    faults
+}
+
+/// All choices of one, two or three faults with different numbers, in the same order.
+fn choices(faults: &[(u64, Change)]) -> Vec<Vec<(u64, Change)>> {
+    let mut choices: Vec<Vec<(u64, Change)>> = faults.iter().map(|&fault| vec![fault]).collect();
+    let mut start = 0;
+    for _ in 0..2 {
+        let end = choices.len();
+        for shorter in start..end {
+            let last = choices[shorter][choices[shorter].len() - 1].0;
+            for &fault in faults.iter().filter(|fault| fault.0 > last) {
+                choices.push([&choices[shorter][..], &[fault]].concat());
+            }
+        }
+        start = end;
+    }
+    choices
+}
+
+/// Accepted calls: the default scheme with messages of some lengths, and drawn schemes.
+fn accepted_calls(random: &mut Random) -> Vec<Call> {
+    let mut calls: Vec<Call> = [0, 1, 100].map(|length| Call::drawn(random, &Scheme::default(), length)).into();
+    for _ in 0..5 {
+        let scheme = Scheme::drawn(random, 60);
+        let length = random.below(2 * scheme.m + 1);
+        calls.push(Call::drawn(random, &scheme, length));
+    }
+    calls
+}
+
+/// Puts every choice of faults into accepted calls.
+fn refused(seed: u64, compare: Compare, of_the_call: &[&[Fault]]) {
+    let mut random = Random::new(seed);
+    let choices = choices(&faults(of_the_call));
+    let (mut calls, mut default_forms) = (0, 0);
+    for accepted in accepted_calls(&mut random) {
+        assert_eq!(compare(&accepted, &mut random), Ok(()));
+        for choice in &choices {
+            let mut call = accepted.clone();
+            // Last first, since a fault wants all that is looked at before it as it was.
+            for (_, change) in choice.iter().rev() {
+                match change {
+                    Change::Scheme(change) => change(&mut call.scheme),
+                    Change::Call(change) => change(&mut call),
+                }
+            }
+            let numbers: Vec<u64> = choice.iter().map(|fault| fault.0).collect();
+            assert_eq!(compare(&call, &mut random), Err(numbers[0]), "{numbers:?} {call:?}");
+            calls += 1;
+            default_forms += call.scheme.is_default() as usize;
+        }
+    }
+    println!("{} choices of faults, {calls} calls, {default_forms} of them in both forms", choices.len());
+    assert!(choices.len() > 800);
+}
+
+#[test]
+fn of_the_check() {
+    refused(16, |call, _| compare::check(&call.scheme), &[]);
+}
+
+#[test]
+fn of_the_splitter() {
+    refused(17, compare::split, &[&MESSAGES, &KEYS, &OUTPUTS]);
+}
+
+#[test]
+fn of_the_prefix() {
+    refused(18, compare::prefix, &[&LENGTHS, &COUNTS, &SHARE]);
+}
+
+#[test]
+fn of_the_basis() {
+    refused(19, compare::basis, &[&PARTIES]);
+}
+
+#[test]
+fn of_the_opener() {
+    refused(20, compare::reconstruct, &[&LENGTHS, &PARTIES, &PREFIXES, &OUTPUTS]);
+}
+
+/// Changes a byte or a length by a little, or a byte to any other.
+fn nearby(random: &mut Random, number: usize) -> usize {
+    (number + random.below(4)).saturating_sub(2)
+}
+
+fn nearby_byte(random: &mut Random, byte: u8) -> u8 {
+    if random.below(4) == 0 {
+        return random.byte();
+    }
+    nearby(random, byte as usize) as u8
+}
+
+/// A change that may be a fault or not.
+fn damage(call: &mut Call, random: &mut Random) {
+    let scheme = &mut call.scheme;
+    let parties = &mut call.parties;
+    match random.below(14) {
+        0 => scheme.n = nearby_byte(random, scheme.n),
+        1 => scheme.r = nearby_byte(random, scheme.r),
+        2 => scheme.z = nearby_byte(random, scheme.z),
+        3 => scheme.counts.push(random.byte() % 17),
+        4 => scheme.counts.insert(0, random.byte() % 17),
+        5 => scheme.counts.truncate(1),
+        6 => call.length = nearby(random, call.length),
+        7 => call.d = nearby(random, call.d),
+        8 => parties.push(random.byte() % 18),
+        9 => parties[0] = nearby_byte(random, parties[0]),
+        10 => call.keys = nearby(random, call.keys),
+        11 => call.share = nearby(random, call.share),
+        12 => call.prefixes = nearby(random, call.prefixes),
+        _ => (call.shares, call.message) = (nearby(random, call.shares), nearby(random, call.message)),
+    }
+}
+
+#[test]
+fn drawn_damage() {
+    let mut random = Random::new(21);
+    let operations: [Compare; 4] = [compare::split, compare::prefix, compare::basis, compare::reconstruct];
+    let mut outcomes = [[0; 11]; 4];
+    for case in 0..30_000 {
+        let scheme = if case % 4 == 0 { Scheme::default() } else { Scheme::drawn(&mut random, 24) };
+        let length = random.below(3 * scheme.m + 1);
+        let mut call = Call::drawn(&mut random, &scheme, length);
+        for _ in 0..1 + random.below(3) {
+            damage(&mut call, &mut random);
+        }
+        for (operation, outcomes) in operations.iter().zip(&mut outcomes) {
+            outcomes[operation(&call, &mut random).err().unwrap_or(0) as usize] += 1;
+        }
+    }
+    println!("30000 calls each, by refusal: {outcomes:?}");
+    assert!(outcomes.iter().all(|outcomes| outcomes[0] > 3000 && outcomes[0] < 20_000));
+}

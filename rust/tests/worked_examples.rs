@@ -1,0 +1,66 @@
+//! The worked examples of the rules, on the proved library and on the other implementation: the two must not agree on
+//! something else.
+
+use gilunavoi::{library, reference};
+
+/// Splits in the scheme n 3, r 1, z 1, counts 3 2.
+fn split(message: &[u8], keys: &[u8], shares: usize) -> Vec<u8> {
+    let mut out = vec![0; shares];
+    let answer = library::split(3, 1, 1, &[3, 2], message, keys, &mut out);
+    assert_eq!(answer, Ok(shares as u64 / 3));
+    assert_eq!(reference::split(3, 1, 1, &[3, 2], message, keys, shares), Ok(out.clone()));
+    out
+}
+
+/// Opens two bytes in the same scheme: the bytes used, and the message.
+fn reconstruct(parties: &[u8], prefixes: &[u8]) -> (u64, Vec<u8>) {
+    let mut out = vec![0; 2];
+    let used = library::reconstruct(3, 1, 1, &[3, 2], 2, parties, prefixes, &mut out).unwrap();
+    assert_eq!(reference::reconstruct(3, 1, 1, &[3, 2], 2, parties, prefixes, 2), Ok((used, out.clone())));
+    (used, out)
+}
+
+fn check(n: u8, r: u8, z: u8, counts: &[u8]) -> library::Checked {
+    let answer = library::check(n, r, z, counts);
+    assert_eq!(answer, reference::check(n, r, z, counts));
+    answer
+}
+
+#[test]
+fn arithmetic() {
+    for (a, b, product) in [(0x57, 0x83, 0xc1), (0x57, 0x13, 0xfe)] {
+        assert_eq!([library::mul(a, b), library::mul_by_shifting(a, b), reference::mul(a, b)], [product; 3]);
+    }
+    assert_eq!([library::inverse(2), reference::inverse(2)], [0x8d; 2]);
+    assert_eq!([library::inverse(0), reference::inverse(0)], [0; 2]);
+}
+
+#[test]
+fn shares_and_messages() {
+    assert_eq!(split(&[5, 7], &[9, 4], 6), [11, 3, 31, 10, 29, 13]);
+    assert_eq!(split(&[0, 0], &[31, 10], 6)[2..4], [31, 10]);
+    assert_eq!(split(&[5, 7, 1], &[9, 4, 2, 6], 12)[..4], [11, 3, 3, 6]);
+    assert_eq!(reconstruct(&[1, 2, 3], &[11, 31, 29]), (3, vec![5, 7]));
+    assert_eq!(reconstruct(&[1, 3], &[11, 3, 29, 13]), (4, vec![5, 7]));
+}
+
+#[test]
+fn schemes() {
+    assert_eq!(check(3, 1, 1, &[3, 2]), Ok((2, 2)));
+    assert_eq!(check(7, 4, 1, &[7, 4, 3]), Ok((6, 3)));
+    assert_eq!(check(9, 3, 1, &[9, 8, 7, 6]), Ok((840, 168)));
+    assert_eq!(check(10, 4, 1, &[10, 9, 8, 6]), Err(4));
+    assert_eq!(check(2, 0, 1, &[2]), Ok((1, 1)));
+    assert_eq!(check(2, 1, 1, &[2]), Err(2));
+    assert_eq!(check(1, 0, 1, &[1]), Err(1));
+    assert_eq!(check(17, 0, 1, &[17]), Err(1));
+}
+
+#[test]
+fn the_longest_message() {
+    for (length, answer) in [(16384, Ok(1366 * 6)), (16385, Err(5))] {
+        let mut out = vec![0; 1366 * 30];
+        assert_eq!(library::split_default(&vec![1; length], &[2; 1366 * 6], &mut out), answer);
+        assert_eq!(library::prefix_default(length, 3, &[0; 1366 * 6]), answer);
+    }
+}
