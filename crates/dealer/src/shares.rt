@@ -6,7 +6,6 @@ ghost use mathlib.Core.List.{List};
 ghost use Prim.Native.Nat.{ℕ, _*_, _+_, _≤_, _<_};
 ghost use lib.ListN.{length, take, getD};
 ghost use Rattle.lists.specs.Table.{tabulate, joined};
-ghost use Rattle.gf256.specs.Lanes.{lanes};
 ghost use Rattle.interpolation.specs.Interpolation.{side};
 ghost use Rattle.scheme.specs.Facts.{SchemeIs};
 ghost use Rattle.scheme.specs.Limits.{maxParties, maxBlock, maxMessage};

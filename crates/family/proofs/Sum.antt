@@ -1,13 +1,13 @@
 -- Laws of the sum of two strings of bytes.
 -- Assumes nothing.
-use mathlib.Core.Path.{_≡_, refl, sym, ap, ap₂, _∙_}
+use mathlib.Core.Path.{_≡_, sym, ap, ap₂, _∙_}
 use mathlib.Core.List.{List}
 use Prim.Native.Nat.{ℕ, _+_, _*_, _≤_, _<_}
 use native.Mathlib.Omega.{arith}
 use lib.ListN.{length, getD}
 use lib.Seq.{ext-getD}
-use Rattle.lists.specs.Each.{Each, Byte}
-use Rattle.lists.specs.Table.{tabulate, piece}
+use Rattle.lists.specs.Each.{Byte}
+use Rattle.lists.specs.Table.{piece}
 use Rattle.lists.proofs.Each.{each-getD, each-of}
 use Rattle.lists.proofs.Table.{length-tabulate, getD-tabulate}
 use Rattle.lists.proofs.Joined.{below-product}

@@ -6,7 +6,7 @@ use native.Mathlib.Nat.{not-suc-le-zero, le-of-suc-le-suc, le-refl, mod-lt, zero
 use native.Mathlib.Nat as N
 use native.Mathlib.Decide.{le-ind}
 use lib.Arith.{half-le, bin-ind}
-use lib.Bits.{bitXor, differ, xor-step, xor-shr, xor-mod, xor-block, xor-comm, xor-self, xor-zero-r}
+use lib.Bits.{differ, xor-step, xor-shr, xor-mod, xor-block, xor-comm}
 use Rattle.gf256.specs.Byte.{_⊕_, through}
 
 pub below-two : (P : ℕ → Type 0) → P 0 → P 1 → (d : ℕ) → d < 2 → P d

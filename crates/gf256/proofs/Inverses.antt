@@ -1,19 +1,19 @@
 -- The inverse: it is one, it is the only one, and no two bytes but 0 have the product 0.
 -- The table of 256 inverses is tested once, by computing; each entry's rule follows.
 -- Assumes nothing.
-use mathlib.Core.Path.{_≡_, refl, sym, ap, _∙_, subst}
+use mathlib.Core.Path.{_≡_, refl, sym, ap, _∙_}
 use mathlib.Core.Bool.{Bool, true, false, cond, _&&_}
 use mathlib.Core.List.{List, [], _∷_}
 use mathlib.Core.Logic.{_⊎_, inl, inr, ⊎-elim}
-use Prim.Native.Nat.{ℕ, zero, suc, _≤_, _<_, zero-le, suc-le-suc}
+use Prim.Native.Nat.{ℕ, zero, suc, _≤_, _<_}
 use native.Mathlib.Nat.{le-of-suc-le-suc, not-suc-le-zero, eq-or-lt-of-le, le-trans, le-suc, le-refl, zero-lt-suc}
 use lib.Dec.{T, ltb, eqb, eqb→eq, ltb→lt, lit<}
-use lib.ListN.{getD, length}
+use lib.ListN.{getD}
 use borrow.Author.Tests.{eqb-true, eqb-false}
 use Rattle.gf256.specs.Byte.{_⊕_, product, cut, reduce, _⊗_, inverseBelow, inverse}
 use Rattle.lists.proofs.Tests.{both-left, both-right}
-use Rattle.lists.proofs.Computed.{every, at}
-use Rattle.gf256.proofs.Ring.{⊗-byte, ⊗-comm, ⊗-assoc, ⊗-zero, zero-⊗, one-⊗}
+use Rattle.lists.proofs.Computed.{at}
+use Rattle.gf256.proofs.Ring.{⊗-comm, ⊗-assoc, ⊗-zero, zero-⊗, one-⊗}
 
 -- ---- the search finds an inverse where there is one
 

@@ -1,18 +1,18 @@
 -- Powers and logarithms of 3, and the product by their tables.
 -- Each table is tested once, by computing: in that of the powers each entry is 3 times the one before, and at the logarithm of a byte stands the byte.
 -- Assumes nothing.
-use mathlib.Core.Path.{_≡_, refl, sym, ap, ap₂, _∙_, subst}
-use mathlib.Core.Bool.{Bool, true, false, _&&_}
+use mathlib.Core.Path.{_≡_, refl, sym, ap, ap₂, _∙_}
+use mathlib.Core.Bool.{Bool, true, _&&_}
 use mathlib.Core.List.{List, [], _∷_}
-use Prim.Native.Nat.{ℕ, zero, suc, _+_, _≤_, _<_}
-use native.Mathlib.Nat.{le-of-suc-le-suc, not-suc-le-zero, zero-add, suc-add, add-suc, zero-lt-suc}
+use Prim.Native.Nat.{ℕ, zero, suc, _+_, _<_}
+use native.Mathlib.Nat.{le-of-suc-le-suc, not-suc-le-zero, zero-add, suc-add, add-suc}
 use native.Mathlib.Nat as N
 use native.Mathlib.Omega.{arith}
 use lib.Dec.{T, ltb, eqb, eqb→eq, ltb→lt, lit<}
 use lib.ListN.{getD, length}
 use Rattle.gf256.specs.Byte.{_⊕_, product, cut, reduce, _⊗_, power}
 use Rattle.lists.proofs.Tests.{both-left, both-right}
-use Rattle.lists.proofs.Computed.{every, at}
+use Rattle.lists.proofs.Computed.{at}
 use Rattle.gf256.proofs.Ring.{⊗-byte, ⊗-assoc, one-⊗}
 
 pub power-byte : (a n : ℕ) → power a n < 256

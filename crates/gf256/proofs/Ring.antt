@@ -1,14 +1,14 @@
 -- The laws of byte arithmetic. All but those that name a bound hold for all natural numbers.
 -- Assumes nothing.
 use mathlib.Core.Path.{_≡_, refl, sym, ap, ap₂, _∙_, subst}
-use Prim.Native.Nat.{ℕ, zero, suc, _+_, _*_, _/_, _%_, _≤_, _<_, zero-le}
+use Prim.Native.Nat.{ℕ, _+_, _*_, _/_, _%_, _<_}
 use native.Mathlib.Nat as N
 use native.Mathlib.Omega.{arith}
 use lib.Arith.{bin-ind}
 use lib.Bits.{xor-shr, xor-comm, xor-self, xor-zero-r, xor-lt, xor-shifted}
-use lib.Dec.{T, ltb, eqb, ltb→lt, eqb→eq, lit<}
+use lib.Dec.{ltb, eqb, ltb→lt, eqb→eq, lit<}
 use Rattle.gf256.specs.Byte.{_⊕_, modulus, product, cut, reduce, _⊗_}
-use Rattle.lists.proofs.Computed.{all, holds}
+use Rattle.lists.proofs.Computed.{holds}
 use Rattle.gf256.proofs.Digits.{⊕-assoc, below-two, odd-lt, half-⊕, odd-⊕, ⊕-beside, ⊕-doubled, times-digit, interchange, through-step}
 
 -- ---- the sum

@@ -9,7 +9,7 @@ use lib.ListN.{length, getD, drop}
 use lib.Seq.{drop-cons, drop-length}
 use Rattle.lists.specs.Table.{tabulate}
 use Rattle.lists.proofs.Table.{getD-tabulate, tabulate-same}
-use Rattle.gf256.specs.Byte.{_⊕_, _⊗_}
+use Rattle.gf256.specs.Byte.{_⊕_}
 use Rattle.gf256.specs.Lanes.{lanes, sums, scaled}
 use Rattle.interpolation.specs.Polynomial.{next, eval}
 use Rattle.interpolation.specs.RowValue.{nextEach, valuesOf}

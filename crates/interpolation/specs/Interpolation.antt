@@ -1,7 +1,7 @@
 -- The polynomial through given points, the Lagrange basis (document 01's weights), and the one fact about interpolation that the layers above cite.
 -- Assumes nothing.
 use mathlib.Core.Path.{_≡_}
-use mathlib.Core.Bool.{Bool, cond, _&&_}
+use mathlib.Core.Bool.{cond, _&&_}
 use mathlib.Core.List.{List, [], _∷_, _++_}
 use Prim.Native.Nat.{ℕ, _-_, _≤_}
 use lib.Dec.{ltb, leb, eqb}

@@ -1,13 +1,13 @@
 -- Laws of `joined` and of places in a rectangle: entry k of part i, of parts of m entries, stands at i * m + k.
 -- Assumes nothing.
 use mathlib.Core.Path.{_≡_, refl, sym, ap, _∙_}
-use mathlib.Core.List.{List, [], _∷_, _++_}
+use mathlib.Core.List.{List}
 use mathlib.Core.Logic.{⊎-elim}
 use Prim.Native.Nat.{ℕ, zero, suc, _+_, _*_, _/_, _%_, _≤_, _<_, zero-le}
 use native.Mathlib.Nat.{add-zero, zero-mul, suc-mul, mul-zero, le-refl, le-step, le-of-eq, lt-of-le-of-lt, eq-or-lt-of-le, le-of-suc-le-suc, not-suc-le-zero, mul-le-mul-right, eq-zero-or-pos}
 use native.Mathlib.Nat.{mul-add-div-right, div-eq-of-lt, mul-add-mod-self-right, mod-eq-of-lt, div-lt-iff-lt-mul, mod-lt, div-add-mod'}
 use native.Mathlib.Omega.{arith}
-use lib.ListN.{length, getD, take, drop, length-append, length-drop, List·getD-append}
+use lib.ListN.{length, getD, drop, length-append, length-drop, List·getD-append}
 use lib.Seq.{getD-append-add, drop-at, take-all, drop-append-le, take-append-le}
 use Rattle.lists.specs.Table.{tabulate, joined, piece}
 use Rattle.lists.proofs.Table.{tabulate-is, length-tabulate, getD-tabulate}

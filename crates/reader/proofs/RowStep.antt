@@ -11,7 +11,6 @@ use lib.ListN.{length, getD, take, length-map}
 use lib.Seq.{getD-take, length-take-le, ext-getD}
 use Rattle.lists.specs.Each.{Each, Byte}
 use Rattle.lists.proofs.Each.{each-take, getD-map, true-distinct}
-use Rattle.lists.proofs.Table.{getD-tabulate}
 use Rattle.lists.proofs.Tests.{lt-or-le}
 use Rattle.gf256.specs.Byte.{_⊕_, _⊗_}
 use Rattle.gf256.specs.Lanes.{lanes}

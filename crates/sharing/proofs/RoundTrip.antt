@@ -1,37 +1,34 @@
 -- Demand 2, the way there and back: what was split comes back.
 -- Assumes nothing.
-use mathlib.Core.Path.{_≡_, refl, sym, ap, ap₂, _∙_}
+use mathlib.Core.Path.{_≡_, sym, ap, _∙_}
 use mathlib.Core.Bool.{true, false}
-use mathlib.Core.List.{List, [], _∷_, map}
-use Prim.Native.Nat.{ℕ, _+_, _*_, _≤_, _<_}
-use native.Mathlib.Nat.{mul-assoc, mul-comm, add-mul, mul-le-mul-right}
-use native.Mathlib.Omega.{arith}
+use mathlib.Core.List.{List}
+use Prim.Native.Nat.{ℕ, _*_, _≤_, _<_}
+use native.Mathlib.Nat.{mul-comm, mul-le-mul-right}
 use lib.ListN.{length, getD, take}
-use lib.Seq.{getD-take, length-take-le}
+use lib.Seq.{length-take-le}
 use borrow.Author.Tests.{eq-eqb, le-ltb}
-use Rattle.lists.specs.Each.{Each, Distinct, Byte, occurs}
-use Rattle.lists.specs.Table.{joined, piece}
-use Rattle.lists.proofs.Each.{each-getD, occurs-place}
-use Rattle.lists.proofs.Joined.{below-product, length-joined, joined-same, piece-joined}
-use Rattle.lists.proofs.Piece.{getD-piece}
+use Rattle.lists.specs.Each.{Each, Byte, occurs}
+use Rattle.lists.specs.Table.{joined}
+use Rattle.lists.proofs.Each.{each-getD}
+use Rattle.lists.proofs.Joined.{length-joined, joined-same, piece-joined}
 use Rattle.scheme.specs.Limits.{maxMessage}
 use Rattle.scheme.specs.Check.{blockCount, rowsOfCount}
 use Rattle.scheme.proofs.Laws.{accepted, parties-distinct}
-use Rattle.family.specs.Message.{Bytes, padded}
+use Rattle.family.specs.Message.{padded}
 use Rattle.family.specs.Family.{shareOfBlocks}
 use Rattle.family.specs.Exactness as family
 use Rattle.family.proofs.Shares.{length-share}
-use Rattle.family.proofs.Exactness.{blocks-exact, message-back}
-use Rattle.staircase.specs.Parameters.{Parameters, Accepted, Party, block, rows, point}
-use Rattle.staircase.specs.Shares.{staircase, shares, partOf, KeyString}
-use Rattle.staircase.specs.Opening.{openedBlock, openedKeys}
+use Rattle.family.proofs.Exactness.{message-back}
+use Rattle.staircase.specs.Parameters.{Parameters, Accepted, Party, block, rows}
+use Rattle.staircase.specs.Shares.{staircase, partOf, KeyString}
 use Rattle.staircase.proofs.Hidden.{part-is-share}
-use Rattle.staircase.proofs.Exactness.{staircase-exact, sent-most}
+use Rattle.staircase.proofs.Exactness.{sent-most}
 use Rattle.scheme.specs.Outcome.{firstOf}
 use Rattle.dealer.specs.Split.{splitOutput}
 use Rattle.party.specs.Prefix.{prefixRefusal, prefixLength, prefixOf}
 use Rattle.scheme.specs.Readers.{partiesRefused}
-use Rattle.staircase.specs.Exactness.{prefixBytes, openedString, Gives, Opened, Exactness}
+use Rattle.staircase.specs.Exactness.{prefixBytes, openedString}
 use Rattle.reader.specs.Reconstruct.{reconstructRefusal, reconstructOutput}
 use Rattle.sharing.specs.Secrecy.{wanted}
 use Rattle.sharing.specs.RoundTrip.{handed, RoundTrip}

@@ -1,27 +1,25 @@
 -- Demand 3: the splitter gives nothing away to at most z parties, and how a call ends depends on the scheme and the lengths alone.
 -- Assumes nothing.
-use mathlib.Core.Path.{_≡_, refl, sym, ap, ap₂, _∙_}
-use mathlib.Core.List.{List, [], _∷_, map}
-use Prim.Native.Nat.{ℕ, _+_, _*_, _≤_, _<_}
-use native.Mathlib.Nat.{mul-assoc, mul-comm}
+use mathlib.Core.Path.{_≡_, sym, ap, _∙_}
+use mathlib.Core.List.{List}
+use Prim.Native.Nat.{ℕ, _≤_}
 use native.Mathlib.Omega.{arith}
 use lib.ListN.{length}
 use Rattle.lists.specs.Each.{Each, Distinct, Byte}
-use Rattle.lists.proofs.Each.{map-each, each-imp}
+use Rattle.lists.proofs.Each.{map-each}
 use Rattle.scheme.specs.Limits.{maxMessage}
 use Rattle.scheme.specs.Outcome.{Outcome}
 use Rattle.scheme.specs.Check.{blockCount}
 use Rattle.scheme.proofs.Laws.{default-accepted}
-use Rattle.family.specs.Message.{Bytes}
-use Rattle.staircase.specs.Parameters.{Parameters, Accepted, Party, block, rows}
-use Rattle.staircase.specs.Shares.{staircase, shares, partOf, KeyString}
+use Rattle.staircase.specs.Parameters.{Parameters, Party, block}
+use Rattle.staircase.specs.Shares.{shares, partOf, KeyString}
 use Rattle.staircase.proofs.Hidden.{message-hidden}
 use Rattle.staircase.proofs.WholeBlocks.{keys-number}
 use Rattle.dealer.specs.declared.SplitAnswer.{SplitAnswer}
 use Rattle.dealer.specs.declared.SplitAnswer.the-variants.{Written, Refused}
-use Rattle.dealer.specs.Split.{splitOutcome, splitRefusal, splitAnswer, splitOutput}
+use Rattle.dealer.specs.Split.{splitOutcome, splitRefusal}
 use Rattle.dealer.proofs.Laws.{none-applies, written as written-out}
-use Rattle.sharing.specs.Secrecy.{wanted, Secret, Secrecy, defaultParameters, Call, written, EndsAlike}
+use Rattle.sharing.specs.Secrecy.{wanted, Secret, Secrecy, defaultParameters, EndsAlike}
 
 -- ---- secrecy
 

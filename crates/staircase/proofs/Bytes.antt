@@ -1,10 +1,10 @@
 -- What the splitter writes, as one table: in each share, at each place, the value of a row whose coefficients are read off the key string and the
 -- message. Past the message's end stands the padding, which is 0.
 -- Assumes nothing.
-use mathlib.Core.Path.{_≡_, refl, sym, ap, ap₂, _∙_}
+use mathlib.Core.Path.{_≡_, refl, ap, _∙_}
 use mathlib.Core.Bool.{cond}
 use mathlib.Core.List.{List, [], _∷_, _++_}
-use Prim.Native.Nat.{ℕ, zero, suc, _+_, _-_, _*_, _/_, _%_, _≤_, _<_}
+use Prim.Native.Nat.{ℕ, zero, suc, _+_, _-_, _*_, _/_, _%_, _<_}
 use native.Mathlib.Omega.{arith}
 use lib.Dec.{ltb}
 use lib.ListN.{length, getD, replicate}
@@ -20,7 +20,7 @@ use Rattle.family.specs.Message.{padded}
 use Rattle.family.specs.Family.{shareOfBlocks, sharesOfBlocks}
 use Rattle.family.proofs.Message.{length-padded}
 use Rattle.staircase.specs.Parameters.{Parameters, Accepted, block, rows, point}
-use Rattle.staircase.specs.Coefficients.{countOf, origin, coefficientAt, shareByte}
+use Rattle.staircase.specs.Coefficients.{countOf, coefficientAt, shareByte}
 use Rattle.staircase.specs.Shares.{staircase, shares}
 use Rattle.staircase.proofs.Columns.{column-at, part-coefficient}
 

@@ -1,20 +1,19 @@
 -- One block of the staircase family is opened exactly from what as many parties as a count have of its first rows.
 -- Assumes nothing.
-use mathlib.Core.Path.{_≡_, refl, sym, ap, _∙_}
+use mathlib.Core.Path.{_≡_, sym, _∙_}
 use mathlib.Core.List.{List, map}
 use Prim.Native.Nat.{ℕ, _+_, _*_, _/_, _%_, _≤_, _<_}
 use native.Mathlib.Nat.{div-add-mod', mul-le-mul-right}
 use native.Mathlib.Omega.{arith}
 use lib.ListN.{length, getD, take, length-map}
 use lib.Seq.{ext-getD, getD-take, length-take-le}
-use Rattle.lists.specs.Each.{Each, Distinct, Byte}
+use Rattle.lists.specs.Each.{Each, Distinct}
 use Rattle.lists.proofs.Each.{getD-map}
 use Rattle.lists.proofs.Joined.{in-grid}
 use Rattle.interpolation.specs.Polynomial.{eval}
 use Rattle.scheme.specs.Check.{rowsOfCount}
 use Rattle.scheme.specs.Facts as Facts
 use Rattle.scheme.proofs.Laws.{accepted}
-use Rattle.family.specs.Message.{Bytes}
 use Rattle.family.specs.Exactness as family
 use Rattle.staircase.specs.Parameters.{Parameters, Accepted, Party, block, rows, point}
 use Rattle.staircase.specs.Shares.{staircase}

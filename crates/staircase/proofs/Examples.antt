@@ -2,8 +2,7 @@
 -- blocks, and the origins of the rows in the scheme of the paper's Figure 2b.
 -- Assumes nothing.
 use mathlib.Core.Path.{_≡_, refl}
-use mathlib.Core.List.{List, [], _∷_}
-use Prim.Native.Nat.{ℕ}
+use mathlib.Core.List.{[], _∷_}
 use Rattle.lists.specs.Table.{tabulate, joined, piece, pieces, flat}
 use Rattle.gf256.specs.Byte as byte
 use Rattle.gf256.specs.Byte.{_⊕_, _⊗_, cut, reduce}
@@ -14,7 +13,6 @@ use Rattle.family.specs.Message.{padded}
 use Rattle.family.specs.Family.{shareOfBlocks, sharesOfBlocks}
 use Rattle.staircase.specs.Parameters.{Parameters, parameters, point}
 use Rattle.staircase.specs.Rows.{rowOf, keyed, copied, withGroups, rowsOf}
-use Rattle.staircase.specs.Coefficients.{groupOf, originIn, origin}
 use Rattle.staircase.specs.Shares.{staircase, shares}
 
 abbrev planA : Parameters

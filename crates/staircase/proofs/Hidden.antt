@@ -1,13 +1,13 @@
 -- Secrecy of whole blocks, whatever their padding, and of messages: a change of the key string hides which of two was split from at most z parties.
 -- Assumes nothing.
-use mathlib.Core.Path.{_≡_, sym, ap, _∙_, subst}
+use mathlib.Core.Path.{_≡_, sym, ap, _∙_}
 use mathlib.Core.List.{List, map}
-use Prim.Native.Nat.{ℕ, _+_, _-_, _*_, _≤_, _<_}
+use Prim.Native.Nat.{ℕ, _+_, _-_, _*_, _≤_}
 use native.Mathlib.Omega.{arith}
-use lib.ListN.{length, getD}
+use lib.ListN.{length}
 use Rattle.lists.specs.Each.{Each, Distinct, Byte}
 use Rattle.lists.specs.Table.{piece}
-use Rattle.lists.proofs.Each.{each-imp, each-map, map-each}
+use Rattle.lists.proofs.Each.{each-imp, each-map}
 use Rattle.lists.proofs.Joined.{piece-joined}
 use Rattle.scheme.specs.Check.{blockCount}
 use Rattle.scheme.proofs.Laws.{accepted}

@@ -2,10 +2,9 @@
 -- Assumes nothing.
 use mathlib.Core.Path.{_≡_, refl, ap}
 use mathlib.Core.List.{List, [], _∷_, map}
-use Prim.Native.Nat.{ℕ, _≤_, _<_}
+use Prim.Native.Nat.{ℕ}
 use native.Mathlib.Omega.{arith}
 use Rattle.lists.specs.Each.{Each, Distinct, Byte}
-use Rattle.scheme.specs.Check.{refusal}
 use Rattle.scheme.proofs.Laws.{accepted}
 use Rattle.staircase.specs.Parameters.{Parameters, Accepted, Party, point}
 

@@ -1,27 +1,25 @@
 -- Secrecy of one block: of a row only the keys depend on the key string, so z bytes that take, at the chosen points, the difference of two
 -- blocks' other coefficients can be added to the keys of the row unseen.
 -- Assumes nothing.
-use mathlib.Core.Path.{_≡_, refl, sym, ap, ap₂, _∙_}
-use mathlib.Core.Bool.{cond}
-use mathlib.Core.List.{List, [], _∷_, _++_, map}
+use mathlib.Core.Path.{_≡_, sym, ap, _∙_}
+use mathlib.Core.List.{List, _++_, map}
 use mathlib.Core.Logic.{⊎-elim}
-use Prim.Native.Nat.{ℕ, zero, suc, _+_, _-_, _*_, _≤_, _<_}
+use Prim.Native.Nat.{ℕ, _+_, _-_, _*_, _≤_, _<_}
 use native.Mathlib.Nat.{zero-lt-suc}
 use native.Mathlib.Omega.{arith}
-use lib.Dec.{ltb}
 use lib.ListN.{length, getD, length-map, length-append, List·getD-append}
 use lib.Seq.{ext-getD, getD-append-add}
 use borrow.Author.Tests.{lt-ltb, le-ltb}
 use Rattle.lists.specs.Each.{Each, Distinct, Byte}
-use Rattle.lists.specs.Table.{tabulate, joined, piece}
+use Rattle.lists.specs.Table.{tabulate, piece}
 use Rattle.lists.proofs.Tests.{lt-or-le}
 use Rattle.lists.proofs.Each.{each-getD, each-of, each-imp, each-map, map-each, each-joined, each-tabulate, each-at, getD-map}
 use Rattle.lists.proofs.Table.{length-tabulate, getD-tabulate, tabulate-same, tabulate-is, map-tabulate}
 use Rattle.lists.proofs.Joined.{length-joined, piece-joined}
-use Rattle.lists.proofs.Piece.{length-piece, getD-piece, each-piece}
-use Rattle.gf256.specs.Byte.{_⊕_, _⊗_, power}
+use Rattle.lists.proofs.Piece.{length-piece, getD-piece}
+use Rattle.gf256.specs.Byte.{_⊕_, _⊗_}
 use Rattle.gf256.proofs.Laws.{⊕-assoc, ⊕-self, ⊕-zero, ⊕-byte, ⊗-byte}
-use Rattle.interpolation.specs.Polynomial.{eval, values, plus}
+use Rattle.interpolation.specs.Polynomial.{eval, plus}
 use Rattle.interpolation.specs.Interpolation.{fitted}
 use Rattle.interpolation.proofs.Laws.{eval-append, eval-plus, eval-byte, plus-at, plus-length, fitted-values, fitted-length, fitted-byte}
 use Rattle.family.specs.Message.{Bytes}

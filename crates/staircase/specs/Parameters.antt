@@ -4,7 +4,7 @@ use mathlib.Core.Path.{_≡_}
 use mathlib.Core.List.{List}
 use Prim.Native.Nat.{ℕ, _≤_}
 use Rattle.scheme.specs.BlockLength.{blockLength}
-use Rattle.scheme.specs.Check.{refusal, rowsOfBlock, rowsOfCount}
+use Rattle.scheme.specs.Check.{refusal, rowsOfBlock}
 
 pub record Parameters : Type 0 where
   pub n : ℕ

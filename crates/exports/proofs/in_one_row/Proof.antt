@@ -1,11 +1,10 @@
 -- `exports::in_one_row` meets its contract. The invariant is `Fill`: the bytes before place k are the table's. The measure is what is left.
 -- Assumes nothing.
-use mathlib.Core.Path.{_≡_, refl, _∙_}
+use mathlib.Core.Path.{refl}
 use mathlib.Core.List.{[]}
-use Prim.Native.Nat.{ℕ, _/_, _%_, _-_}
+use Prim.Native.Nat.{_/_, _%_, _-_}
 use native.Mathlib.Omega.{arith}
 use lib.ListN.{getD}
-use borrow.Author.Needs.{needs}
 use Rattle.lists.proofs.Fill.{Fill, fill-none, fill-more, fill-all}
 use Rattle.exports.specs.Fields.{flattened}
 use Rattle.exports.proofs.in_one_row.Statement.{statement}

@@ -1,6 +1,6 @@
 -- `gf256::mul` meets its contract: a factor 0 by the law, the others by the tables.
 -- Assumes nothing.
-use mathlib.Core.Path.{_≡_, sym, ap, ap₂, _∙_}
+use mathlib.Core.Path.{sym, ap, ap₂, _∙_}
 use native.Mathlib.Omega.{arith}
 use borrow.Author.Needs.{needs}
 use Rattle.gf256.specs.Byte.{_⊗_}

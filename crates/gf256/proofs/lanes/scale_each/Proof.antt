@@ -1,7 +1,7 @@
 -- `gf256::lanes::scale_each` meets its contract: a product by shifting at every place. The invariant, at each place: the sum so far, and the product
 -- of what is left, is the product. The measure is what is left.
 -- Assumes nothing.
-use mathlib.Core.Path.{_≡_, refl, sym, ap, _∙_}
+use mathlib.Core.Path.{_≡_, refl, ap, _∙_}
 use mathlib.Core.List.{List}
 use mathlib.Core.Logic.{⊎-elim}
 use Prim.Native.Nat.{ℕ, _*_, _%_, _<_}
