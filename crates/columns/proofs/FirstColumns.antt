@@ -1,19 +1,18 @@
 -- The first columns of a row, and the loop over them from the highest down.
 -- Assumes nothing.
-use mathlib.Core.Path.{_≡_, sym, ap, _∙_}
+use mathlib.Core.Path.{_≡_, sym, ap}
 use mathlib.Core.List.{List, [], _∷_}
 use Prim.Native.Nat.{ℕ, _+_, _-_, _≤_, _<_, min}
 use native.Mathlib.Nat.{min-eq-left}
 use native.Mathlib.Omega.{arith}
 use lib.ListN.{length, getD, take, drop}
 use Rattle.lists.specs.Table.{tabulate}
-use Rattle.lists.proofs.Table.{length-tabulate, getD-tabulate, tabulate-same, map-tabulate}
+use Rattle.lists.proofs.Table.{length-tabulate, getD-tabulate}
 use Rattle.lists.proofs.Parts.{take-tabulate}
 use Rattle.gf256.specs.Lanes.{lanes}
-use Rattle.interpolation.specs.Polynomial.{eval}
 use Rattle.interpolation.specs.Interpolation.{side}
 use Rattle.interpolation.specs.RowValue.{nextEach, valuesOf}
-use Rattle.interpolation.proofs.RowValues.{row-value, row-start, row-step}
+use Rattle.interpolation.proofs.RowValues.{row-start, row-step}
 use Rattle.columns.specs.Columns.{firstColumns}
 
 -- ---- what they are
@@ -27,11 +26,6 @@ module _ (d : ℕ) (columns : List (List ℕ)) where
   unfolding firstColumns
   first-at e h = getD-tabulate (min d side) _ e [] h
 
-  -- at most 16 columns that are each by the rule f
-  pub first-by : (f : ℕ → List ℕ) → d ≤ side → ((e : ℕ) → e < d → getD columns e [] ≡ f e) → firstColumns d columns ≡ tabulate d f
-  unfolding firstColumns
-  first-by f few are = rw (min-eq-left few) (tabulate-same d _ f are)
-
   -- of the 16 columns of an array they are the first d
   pub first-take : length columns ≡ side → d ≤ side → firstColumns d columns ≡ take d columns
   unfolding firstColumns
@@ -39,12 +33,6 @@ module _ (d : ℕ) (columns : List (List ℕ)) where
 
   pub values-take : (x : ℕ) → length columns ≡ side → d ≤ side → valuesOf x (firstColumns d columns) ≡ valuesOf x (take d columns)
   values-take x long few = ap (valuesOf x) (first-take long few)
-
-  -- byte k of the values is the value of the row in block k
-  pub values-at : (x k : ℕ) → k < lanes
-      → getD (valuesOf x (firstColumns d columns)) k 0 ≡ eval x (tabulate (min d side) (λ e. getD (getD columns e []) k 0))
-  unfolding firstColumns
-  values-at x k h = row-value x (firstColumns d columns) k h ∙ ap (eval x) (map-tabulate (λ column. getD column k 0) (min d side) (λ e. getD columns e []))
 
 -- ---- the loop
 

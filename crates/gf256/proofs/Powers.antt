@@ -1,7 +1,7 @@
 -- Powers and logarithms of 3, and the product by their tables.
 -- Each table is tested once, by computing: in that of the powers each entry is 3 times the one before, and at the logarithm of a byte stands the byte.
 -- Assumes nothing.
-use mathlib.Core.Path.{_≡_, refl, sym, ap, ap₂, _∙_}
+use mathlib.Core.Path.{_≡_, refl, sym, ap, _∙_}
 use mathlib.Core.Bool.{Bool, true, _&&_}
 use mathlib.Core.List.{List, [], _∷_}
 use Prim.Native.Nat.{ℕ, zero, suc, _+_, _<_}
@@ -124,11 +124,3 @@ power-of-logarithm zero p h = absurd (not-suc-le-zero p)
 power-of-logarithm (suc a) p h =
     sym (power-entry (getD logarithms (suc a) 0) (let l : getD logarithms (suc a) 0 < 255 = logarithm-lt (suc a) h in omega arith))
     ∙ eqb→eq (getD powers (getD logarithms (suc a) 0) 0) (suc a) (both-right (ltb (getD logarithms (suc a) 0) 255) (eqb (getD powers (getD logarithms (suc a) 0) 0) (suc a)) (rule (suc a) h))
-
--- the product by the tables
-pub by-tables : (a b : ℕ) → 0 < a → a < 256 → 0 < b → b < 256
-    → getD powers (getD logarithms a 0 + getD logarithms b 0) 0 ≡ a ⊗ b
-by-tables a b p h q k =
-    power-entry (getD logarithms a 0 + getD logarithms b 0) (omega (arith, logarithm-lt a h, logarithm-lt b k))
-    ∙ power-add 3 (getD logarithms a 0) (getD logarithms b 0)
-    ∙ ap₂ _⊗_ (power-of-logarithm a p h) (power-of-logarithm b q k)

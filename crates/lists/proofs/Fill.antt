@@ -6,10 +6,9 @@ use Prim.Native.Nat.{ℕ, _+_, _≤_, _<_, zero-le}
 use native.Mathlib.Nat.{le-antisymm}
 use native.Mathlib.Numerals.{add-one}
 use native.Mathlib.Omega.{arith}
-use lib.ListN.{length, getD, take, set, length-set}
-use lib.Seq.{getD-take, take-suc-set, take-all}
+use lib.ListN.{length, take, set, length-set}
+use lib.Seq.{take-suc-set, take-all}
 use Rattle.lists.specs.Table.{tabulate}
-use Rattle.lists.proofs.Table.{getD-tabulate}
 
 -- the first i of o's n entries are by the rule f
 pub record Fill {ℓ} {A : Type ℓ} (f : ℕ → A) (n i : ℕ) (o : List A) : Type ℓ where
@@ -30,10 +29,6 @@ module _ {ℓ} {A : Type ℓ} where
         long = length-set o i v ∙ F .long;
         is = rw (add-one, take-suc-set o i v (rw (F .long) h), F .is, e);
       }
-
-  -- an entry that is filled is by the rule
-  pub fill-get : {f : ℕ → A} {n i : ℕ} {o : List A} → Fill f n i o → (k : ℕ) (z : A) → k < i → getD o k z ≡ f k
-  fill-get {f} {n} {i} {o} F k z h = sym (getD-take i o k z h) ∙ rw (F .is) (getD-tabulate i f k z h)
 
   pub fill-all : {f : ℕ → A} {n i : ℕ} {o : List A} → Fill f n i o → n ≤ i → o ≡ tabulate n f
   fill-all {f} {n} {i} {o} F h =

@@ -12,7 +12,7 @@ use Rattle.scheme.specs.Facts as facts
 use Rattle.scheme.specs.Facts.{SchemeIs}
 use Rattle.scheme.proofs.Laws.{accepted}
 use Rattle.staircase.specs.Coefficients.{groupOf, countOf}
-use Rattle.staircase.proofs.Groups.{group-place, count-above}
+use Rattle.staircase.proofs.Groups.{group-place}
 
 module _ (s : Scheme) (ds : List ℕ) (S : SchemeIs s (s .n) (s .r) (s .z) ds) where
   pub facts-of : facts.Accepted (s .n) (s .r) (s .z) ds (s .block) (s .rows)
@@ -28,11 +28,7 @@ module _ (s : Scheme) (ds : List ℕ) (S : SchemeIs s (s .n) (s .r) (s .z) ds) w
     pub row-group : groupOf (s .block) (s .z) ds row < length ds
     row-group = group-place (s .n) (s .r) (s .z) ds (s .block) (s .rows) facts-of row h
 
-    -- and more than z and at most 16 coefficients
-    pub row-count-low : s .z < countOf (s .block) (s .z) ds row
-    unfolding countOf
-    row-count-low = count-above (s .n) (s .r) (s .z) ds (s .block) (s .rows) facts-of (groupOf (s .block) (s .z) ds row) row-group
-
+    -- and at most 16 coefficients
     pub row-count-high : countOf (s .block) (s .z) ds row ≤ maxParties
     unfolding countOf
     row-count-high = omega (arith, facts-of .high (groupOf (s .block) (s .z) ds row) row-group, facts-of .sizes .parties-high)

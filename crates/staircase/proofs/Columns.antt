@@ -9,7 +9,7 @@ use native.Mathlib.Nat.{add-mul, mul-assoc}
 use native.Mathlib.Omega.{arith}
 use borrow.Author.Tests.{lt-ltb, le-ltb}
 use lib.Dec.{ltb}
-use lib.ListN.{length, getD, length-map}
+use lib.ListN.{length, getD}
 use Rattle.lists.specs.Table.{tabulate, piece}
 use Rattle.lists.proofs.Tests.{lt-or-le}
 use Rattle.lists.proofs.Table.{getD-tabulate, tabulate-same}
@@ -37,12 +37,6 @@ module _ (p : Parameters) (ok : Accepted p) where
   -- ---- one block
 
   module _ (bytes keys : List ℕ) (whole : length bytes ≡ block p) (enough : length keys ≡ rows p * p .z) (s : ℕ) where
-    pub length-column : length (staircase p .column bytes keys s) ≡ rows p
-    unfolding staircase
-    length-column =
-        length-map (rowsOf (block p) (p .z) (p .counts) bytes keys) (eval (point p s))
-        ∙ rows-number (p .n) (p .r) (p .z) (p .counts) (block p) (rows p) known bytes keys whole enough
-
     pub column-at : (j : ℕ) → j < rows p
         → getD (staircase p .column bytes keys s) j 0
         ≡ eval (point p s) (tabulate (countOf (block p) (p .z) (p .counts) j) (coefficient (block p) (p .z) (p .counts) bytes keys j))
