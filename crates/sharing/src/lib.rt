@@ -1,6 +1,7 @@
-// Secret sharing by staircase polynomials over bytes: all of the library's calls under one name, and the demands
-// that they meet together as theorems. A message is split into shares (`dealer`), a party hands out the prefix of its
-// share (`party`), and the readers find their Lagrange basis and the message again (`reader`).
+// Secret sharing by staircase polynomials over bytes: all of the library's calls under one name, with the demands
+// that they meet together as theorems and the worked examples of the rules. A message is split into shares (`dealer`),
+// a party hands out the prefix of its share (`party`), and the readers find their Lagrange basis and the message again
+// (`reader`).
 pub use dealer::SplitAnswer;
 pub use dealer::split;
 pub use dealer::split_default;

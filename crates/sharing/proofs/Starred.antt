@@ -30,8 +30,8 @@ use Rattle.party.specs.Prefix.{prefixRefusal, prefixLength, prefixOf}
 use Rattle.dealer.specs.Split.{splitRefusal, splitAnswer, splitOutput}
 use Rattle.staircase.specs.Exactness.{prefixBytes, openedString}
 use Rattle.reader.specs.Reconstruct.{reconstructRefusal, reconstructAnswer, reconstructOutput}
 use Rattle.sharing.specs.RoundTrip.{handed}
-use Rattle.examples.specs.Starred.{Holds, schemeA, starred}
+use Rattle.sharing.specs.Starred.{Holds, schemeA, starred}
 
 -- ---- what an output of the right length held before is of no account
 
