@@ -10,7 +10,7 @@ use lib.Dec.{ltb}
 use lib.ListN.{getD}
 use Rattle.lists.specs.Table.{tabulate}
 use Rattle.lists.proofs.Table.{tabulate-same, map-tabulate}
-use Rattle.lists.proofs.Joined.{row-of, place-of}
+use Rattle.lists.proofs.Joined.{row-of, place-of, place-on}
 use Rattle.gf256.specs.Lanes.{lanes}
 use Rattle.interpolation.specs.Polynomial.{eval}
 use Rattle.interpolation.specs.RowValue.{valuesOf}
@@ -19,10 +19,6 @@ use Rattle.staircase.specs.Coefficients.{countOf, origin, coefficientAt, shareB
 use Rattle.columns.specs.Columns.{strided}
 use Rattle.columns.proofs.Laws.{strided-at}
 use Rattle.dealer.specs.Columns.{column}
-
--- the place of a message byte k blocks on
-byte-on : (t k m place : ℕ) → t * m + place + k * m ≡ (t + k) * m + place
-byte-on t k m place = omega (arith, add-mul t k m)
 
 -- the place of a key byte k blocks on
 key-on : (t k b j z e : ℕ) → (t * b + j) * z + e + k * (b * z) ≡ ((t + k) * b + j) * z + e
@@ -39,7 +35,7 @@ module _ (m b z : ℕ) (ds message keys : List ℕ) where
           → getD (cond low (strided keys ((t * b + j) * z + e) (b * z)) (strided message (t * m + origin m z ds j e) m)) k 0
           ≡ cond low (getD keys (((t + k) * b + j) * z + e) 0) (getD message ((t + k) * m + origin m z ds j e) 0)
       go true = strided-at keys ((t * b + j) * z + e) (b * z) k h ∙ ap (λ (i : ℕ). getD keys i 0) (key-on t k b j z e)
-      go false = strided-at message (t * m + origin m z ds j e) m k h ∙ ap (λ (i : ℕ). getD message i 0) (byte-on t k m (origin m z ds j e))
+      go false = strided-at message (t * m + origin m z ds j e) m k h ∙ ap (λ (i : ℕ). getD message i 0) (place-on t k (origin m z ds j e) m)
 
   -- row j of block t + k, of N blocks: q is the place of block t of the row, and there are d coefficients
   pub run-byte : (N d j t q x k : ℕ) (columns : List (List ℕ)) → k < lanes → t + k < N → q ≡ j * N + t → d ≡ countOf m z ds j

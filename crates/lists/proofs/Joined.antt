@@ -4,7 +4,7 @@ use mathlib.Core.Path.{_≡_, refl, sym, ap, _∙_}
 use mathlib.Core.List.{List}
 use mathlib.Core.Logic.{⊎-elim}
 use Prim.Native.Nat.{ℕ, zero, suc, _+_, _*_, _/_, _%_, _≤_, _<_, zero-le}
-use native.Mathlib.Nat.{add-zero, zero-mul, suc-mul, mul-zero, le-refl, le-step, le-of-eq, lt-of-le-of-lt, eq-or-lt-of-le, le-of-suc-le-suc, not-suc-le-zero, mul-le-mul-right, eq-zero-or-pos}
+use native.Mathlib.Nat.{add-zero, add-mul, zero-mul, suc-mul, mul-zero, le-refl, le-step, le-of-eq, lt-of-le-of-lt, eq-or-lt-of-le, le-of-suc-le-suc, not-suc-le-zero, mul-le-mul-right, eq-zero-or-pos}
 use native.Mathlib.Nat.{mul-add-div-right, div-eq-of-lt, mul-add-mod-self-right, mod-eq-of-lt, div-lt-iff-lt-mul, mod-lt, div-add-mod'}
 use native.Mathlib.Omega.{arith}
 use lib.ListN.{length, getD, drop, length-append, length-drop, List·getD-append}
@@ -37,6 +37,10 @@ place-of i k m h = mul-add-mod-self-right i m k ∙ mod-eq-of-lt h
 pub same-place : (i k i′ k′ m : ℕ) → k < m → k′ < m → i * m + k ≡ i′ * m + k′ → (i ≡ i′) × (k ≡ k′)
 same-place i k i′ k′ m h h′ e =
     (cc (row-of i k m h, row-of i′ k′ m h′), cc (place-of i k m h, place-of i′ k′ m h′))
+
+-- the same place in the row, k rows on
+pub place-on : (i k e m : ℕ) → i * m + e + k * m ≡ (i + k) * m + e
+place-on i k e m = omega (arith, add-mul i k m)
 
 -- ---- lists one after another, each of m entries
 

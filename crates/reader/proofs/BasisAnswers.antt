@@ -2,15 +2,14 @@
 -- no refusal applies.
 -- Assumes nothing.
 use mathlib.Core.Path.{_≡_, sym, ap, _∙_}
-use mathlib.Core.Bool.{true, false, true≢false}
+use mathlib.Core.Bool.{true, false}
 use mathlib.Core.List.{List, [], _∷_, map}
-use mathlib.Core.Logic.{_≢_}
-use Prim.Native.Nat.{ℕ, _≤_, _<_}
+use Prim.Native.Nat.{ℕ, _≤_}
 use native.Mathlib.Omega.{arith}
 use lib.ListN.{length, getD, take, length-map}
 use borrow.Author.Tests.{ne-eqb, not-false}
 use Rattle.lists.specs.Each.{Each, Distinct, occurs}
-use Rattle.lists.proofs.Each.{each-of, false-occurs, getD-map}
+use Rattle.lists.proofs.Each.{getD-map}
 use Rattle.lists.proofs.Fill.{Fill}
 use Rattle.lists.proofs.Table.{tabulate-is}
 use Rattle.interpolation.specs.Interpolation.{side, basisTable}
@@ -22,7 +21,8 @@ use Rattle.scheme.specs.Facts.{SchemeIs}
 use Rattle.scheme.specs.Check.{checked}
 use Rattle.scheme.proofs.Laws as scheme
 use Rattle.staircase.specs.Parameters.{Parameters, Accepted, Party, point}
-use Rattle.scheme.specs.Readers.{partiesRefused}
+use Rattle.staircase.proofs.Sizes.{count-most}
+use Rattle.scheme.specs.Readers.{readersRefused}
 use Rattle.reader.specs.Basis.{basisRefusal, basisAnswer, zeroTable, basisOf}
 use Rattle.scheme.proofs.Laws.{first-none, when-none, answer-none, answer-some, answer-number, scheme-refused, parties-distinct}
 
@@ -43,11 +43,11 @@ module _ (p : Parameters) (parties : List ℕ) where
     no-count e = simp (is .passed, e)
 
     module _ (count : occurs (length parties) (p .counts) ≡ true) where
-      pub not-rising : partiesRefused (s .n) parties ≡ true → 7 ≡ basisRefusal p parties
+      pub not-rising : readersRefused (s .n) parties ≡ true → 7 ≡ basisRefusal p parties
       unfolding basisRefusal firstOf
       not-rising e = simp (is .passed, count, rw (is .n-is) at e)
 
-      pub none-applies : partiesRefused (s .n) parties ≡ false → 0 ≡ basisRefusal p parties
+      pub none-applies : readersRefused (s .n) parties ≡ false → 0 ≡ basisRefusal p parties
       unfolding basisRefusal firstOf
       none-applies e = simp (is .passed, count, rw (is .n-is) at e)
 
@@ -89,15 +89,11 @@ basis-given p parties e =
     }
 
 module _ (p : Parameters) (parties : List ℕ) (none : basisRefusal p parties ≡ 0) where
-  -- there are at most 16 parties: their number is a count, and each count is at most n
+  -- there are at most 16 parties: their number is a count
   pub parties-few : length parties ≤ side
   parties-few =
       let g = basis-given p parties none in
-      let a = scheme.accepted (p .n) (p .r) (p .z) (p .counts) (g .good) in
-      let no : side < length parties → ⊥ = λ l.
-      let other = each-of {A = ℕ} (λ d. length parties ≢ d) (p .counts) 0 (λ i h s. omega (arith, a .high i h, a .sizes .parties-high)) in
-      true≢false (sym (g .count) ∙ false-occurs (length parties) (p .counts) other) in
-      omega arith
+      count-most p (g .good) (length parties) (g .count)
 
   pub table-given : basisTable (map (point p) parties) ≡ basisOf p parties
   unfolding basisOf

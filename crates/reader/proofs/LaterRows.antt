@@ -6,7 +6,7 @@ use mathlib.Core.Bool.{true}
 use mathlib.Core.List.{List}
 use mathlib.Core.Logic.{_⊎_, ⊎-elim}
 use Prim.Native.Nat.{ℕ, zero, suc, _+_, _-_, _*_, _/_, _%_, _≤_, _<_, zero-le}
-use native.Mathlib.Nat.{suc-ne-zero, not-suc-le-zero, eq-zero-or-pos, mul-le-mul, div-add-mod', div-le-self, mod-lt}
+use native.Mathlib.Nat.{suc-ne-zero, not-suc-le-zero, eq-zero-or-pos, mul-le-mul, div-add-mod', mod-lt}
 use native.Mathlib.Numerals.{add-one}
 use native.Mathlib.Omega.{arith}
 use lib.ListN.{length, getD}
@@ -24,6 +24,7 @@ use Rattle.scheme.specs.Check.{rowsOfCount}
 use Rattle.staircase.specs.Coefficients.{groupOf, countOf, origin}
 use Rattle.staircase.proofs.Groups.{count-above, counts-fall, rows-rise, group-is}
 use Rattle.staircase.proofs.Origin.{origin-onto, origin-forward}
+use Rattle.staircase.proofs.Sizes.{rows-few}
 use Rattle.reader.specs.Decoding.{rowsBefore, Found}
 use Rattle.rows.proofs.Scheme.{facts-of}
 
@@ -79,10 +80,7 @@ module _ (s : Scheme) (ds : List ℕ) (S : SchemeIs s (s .n) (s .r) (s .z) ds) (
 
   -- the bytes of a prefix are few
   pub prefix-few : (P blocks : ℕ) → P ≡ rowsOfCount (s .block) (s .z) d → blocks ≤ maxMessage → P * blocks ≤ maxBlock * maxMessage
-  unfolding rowsOfCount
-  prefix-few P blocks e h =
-      let most : P ≤ maxBlock = omega (arith, div-le-self (s .block) (d - s .z), A .limit) in
-      mul-le-mul most h
+  prefix-few P blocks e h = mul-le-mul (rows-few (s .block) (s .z) d P (A .limit) e) h
 
   -- a coefficient of degree d or more of a row of the groups up to g stands again in a later group
   forward : (steps g : ℕ) → g + steps ≡ place → (j e : ℕ) → j < rowsOfCount (s .block) (s .z) (getD ds g 0) → d ≤ e → e < getD ds g 0

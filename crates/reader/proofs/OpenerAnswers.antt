@@ -4,7 +4,7 @@ use mathlib.Core.Path.{_≡_, sym, ap, _∙_}
 use mathlib.Core.Bool.{true, false}
 use mathlib.Core.List.{List, [], _∷_}
 use Prim.Native.Nat.{ℕ, _+_, _-_, _*_, _≤_, _<_}
-use native.Mathlib.Nat.{mul-le-mul, mul-assoc, div-le-self, div-mul-le-self, le-trans}
+use native.Mathlib.Nat.{mul-le-mul, mul-assoc, div-mul-le-self}
 use native.Mathlib.Omega.{arith}
 use lib.ListN.{length, take, replicate, length-replicate}
 use borrow.Author.Tests.{lt-ltb, le-ltb, eq-eqb, ne-eqb}
@@ -20,12 +20,11 @@ use Rattle.scheme.specs.Check.{checked, rowsOfCount, blockCount}
 use Rattle.scheme.proofs.Laws as scheme
 use Rattle.family.proofs.Message.{blocks-cover}
 use Rattle.staircase.specs.Parameters.{Parameters, Accepted, parameters, block}
-use Rattle.scheme.specs.Readers.{partiesRefused}
+use Rattle.scheme.specs.Readers.{readersRefused}
 use Rattle.staircase.specs.Exactness.{prefixBytes, openedString}
 use Rattle.reader.specs.Reconstruct.{reconstructRefusal, reconstructAnswer, reconstructOutput}
 use Rattle.scheme.proofs.Laws.{answer-none, answered-some, scheme-refused}
-use Rattle.staircase.proofs.Sizes.{block-most, blocks-are, blocks-few}
-use Rattle.reader.proofs.BasisAnswers.{parties-few, none-applies as basis-given}
+use Rattle.staircase.proofs.Sizes.{rows-few, block-most, blocks-are, blocks-few}
 
 -- ---- the answer, from the parties and the three lengths
 
@@ -48,11 +47,11 @@ module _ (p : Parameters) (good : Accepted p) (message : ℕ) (parties : List �
     no-count e = simp (good, le-ltb maxMessage message short, e)
 
     module _ (count : occurs (length parties) (p .counts) ≡ true) where
-      pub not-rising : partiesRefused (p .n) parties ≡ true → refused 7 ≡ reconstructAnswer p message parties prefixes out
+      pub not-rising : readersRefused (p .n) parties ≡ true → refused 7 ≡ reconstructAnswer p message parties prefixes out
       unfolding reconstructAnswer reconstructRefusal firstOf answer
       not-rising e = simp (good, le-ltb maxMessage message short, count, e)
 
-      module _ (passed : partiesRefused (p .n) parties ≡ false) where
+      module _ (passed : readersRefused (p .n) parties ≡ false) where
         pub other-prefixes : (prefixes ≡ prefixBytes p (length parties) (blockCount (block p) message) → ⊥)
             → refused 9 ≡ reconstructAnswer p message parties prefixes out
         unfolding reconstructAnswer reconstructRefusal firstOf answer
@@ -80,11 +79,6 @@ refuses p message parties prefixes out q e =
 
 -- ---- the code's numbers: s is what the check answers, N the blocks of the message and P the rows of the parties' number
 
--- there are at most 16 parties
-pub few : (p : Parameters) (s : Scheme) → SchemeIs s (p .n) (p .r) (p .z) (p .counts) → (parties : List ℕ) → occurs (length parties) (p .counts) ≡ true
-    → partiesRefused (p .n) parties ≡ false → length parties ≤ side
-few p s is parties count passed = parties-few p parties (sym (basis-given p parties s is count (rw (is .n-is) passed)))
-
 module _ (p : Parameters) (s : Scheme) (is : SchemeIs s (p .n) (p .r) (p .z) (p .counts)) (message N : ℕ) (N-is : N ≡ blockCount (s .block) message)
     (short : message ≤ maxMessage) where
   m-most : s .block ≤ maxBlock
@@ -111,10 +105,7 @@ module _ (p : Parameters) (s : Scheme) (is : SchemeIs s (p .n) (p .r) (p .z) (p 
 
     module _ (small : d ≤ side) where
       pub rows-small : d * P ≤ side * maxBlock
-      unfolding rowsOfCount
-      rows-small =
-          let P-most : P ≤ maxBlock = rw P-is (le-trans (div-le-self (s .block) (d - p .z)) m-most) in
-          mul-le-mul small P-most
+      rows-small = mul-le-mul small (rows-few (s .block) (p .z) d P m-most P-is)
 
       pub bytes-small : d * P * N ≤ side * maxBlock * maxMessage
       bytes-small = mul-le-mul rows-small (blocks-few p s is message N N-is short)

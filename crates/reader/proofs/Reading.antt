@@ -27,14 +27,14 @@ use Rattle.staircase.specs.Coefficients.{countOf, coefficient, coefficientAt}
 use Rattle.staircase.specs.Shares.{staircase}
 use Rattle.staircase.proofs.Columns.{column-at, part-coefficient}
 use Rattle.staircase.proofs.Points.{points-bytes, points-distinct}
-use Rattle.scheme.specs.Readers.{partiesRefused}
+use Rattle.scheme.specs.Readers.{readersRefused}
 use Rattle.staircase.specs.Exactness.{prefixBytes, openedString, Gives}
 use Rattle.reader.specs.Decoding.{BasisOf, Sent, Begins}
 use Rattle.scheme.proofs.Laws.{parties-distinct}
 use Rattle.staircase.proofs.Sizes.{rows-within}
 use Rattle.staircase.proofs.WholeBlocks.{keys-number, exactness}
 
-module _ (p : Parameters) (A : Accepted p) (parties : List ℕ) (counted : occurs (length parties) (p .counts) ≡ true) (passed : partiesRefused (p .n) parties ≡ false) where
+module _ (p : Parameters) (A : Accepted p) (parties : List ℕ) (counted : occurs (length parties) (p .counts) ≡ true) (passed : readersRefused (p .n) parties ≡ false) where
   abbrev sent : ℕ
   sent = rowsOfCount (block p) (p .z) (length parties)
 
@@ -82,7 +82,7 @@ module _ (p : Parameters) (A : Accepted p) (parties : List ℕ) (counted : occur
 
 -- so the output of the reader's loops is the beginning of the opened blocks. s is what the check answers, and N the blocks of the message
 module _ (s : Scheme) (ds : List ℕ) (S : SchemeIs s (s .n) (s .r) (s .z) ds) (parties : List ℕ) (counted : occurs (length parties) ds ≡ true)
-    (passed : partiesRefused (s .n) parties ≡ false) (message N : ℕ) (short : message ≤ maxMessage) (N-is : N ≡ blockCount (s .block) message) where
+    (passed : readersRefused (s .n) parties ≡ false) (message N : ℕ) (short : message ≤ maxMessage) (N-is : N ≡ blockCount (s .block) message) where
   abbrev p : Parameters
   p = parameters (s .n) (s .r) (s .z) ds
 

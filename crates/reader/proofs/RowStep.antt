@@ -11,6 +11,7 @@ use lib.ListN.{length, getD, take, length-map}
 use lib.Seq.{getD-take, length-take-le, ext-getD}
 use Rattle.lists.specs.Each.{Each, Byte}
 use Rattle.lists.proofs.Each.{each-take, getD-map, true-distinct}
+use Rattle.lists.proofs.Joined.{place-on}
 use Rattle.lists.proofs.Tests.{lt-or-le}
 use Rattle.gf256.specs.Byte.{_⊕_, _⊗_}
 use Rattle.gf256.specs.Lanes.{lanes}
@@ -21,7 +22,6 @@ use Rattle.interpolation.proofs.Laws.{sumTo-same, interpolate-back, weight-with
 use Rattle.columns.proofs.Laws.{strided-at}
 use Rattle.reader.specs.Decoding.{combined, KnownColumns, Rests, BasisOf, RowOf, Holds}
 use Rattle.reader.proofs.Readings.{combined-at}
-use Rattle.reader.proofs.Writes.{place-of}
 
 -- ---- one block
 
@@ -108,7 +108,7 @@ module _ (z d top high m blocks prefix q t many : ℕ) (points prefixes places w
       high-entry e he hd =
           ap (λ (column : List ℕ). getD column k 0) (K .high e hd he)
           ∙ strided-at work (t * m + getD places e 0) m k (omega arith)
-          ∙ ap (λ (x : ℕ). getD work x 0) (place-of t k m (getD places e 0))
+          ∙ ap (λ (x : ℕ). getD work x 0) (place-on t k (getD places e 0) m)
           ∙ H (t + k) e (omega arith) (omega arith) hd he
           ∙ sym (R .message (t + k) e (omega arith) (omega arith) he)
           ∙ sym (above-high d (R .row (t + k)) e hd)
@@ -143,4 +143,4 @@ module _ (z d top high m blocks prefix q t many : ℕ) (points prefixes places w
       ∙ sumTo-same d _ _ (λ a h. ap (_⊗_ (getD (getD w a []) e 0)) (rest-entry k a hk h))
       ∙ solved d points w I n (omega arith) (R .row (t + k)) (R .bytes (t + k) (omega arith)) (rw (R .long (t + k) (omega arith)) dt) e ed
       ∙ R .message (t + k) e (omega arith) ze (omega arith)
-      ∙ ap (λ (x : ℕ). getD B x 0) (sym (place-of t k m (getD places e 0)))
+      ∙ ap (λ (x : ℕ). getD B x 0) (sym (place-on t k (getD places e 0) m))

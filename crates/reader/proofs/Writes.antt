@@ -5,11 +5,12 @@ use mathlib.Core.Path.{_≡_, refl, sym, ap, ap₂, _∙_}
 use mathlib.Core.List.{List}
 use mathlib.Core.Logic.{_⊎_, inl, inr, ⊎-elim}
 use Prim.Native.Nat.{ℕ, _+_, _-_, _*_, _≤_, _<_}
-use native.Mathlib.Nat.{not-suc-le-zero, add-mul}
+use native.Mathlib.Nat.{not-suc-le-zero}
 use native.Mathlib.Decide.{ℕ-discrete}
 use native.Mathlib.Omega.{arith}
 use lib.ListN.{length, getD, set, length-set}
 use lib.Seq.{getD-set-same, getD-set-other}
+use Rattle.lists.proofs.Joined.{place-on}
 use Rattle.lists.proofs.Tests.{lt-or-le}
 use Rattle.reader.specs.Decoding.{Wrote, Scattered, Solved}
 
@@ -55,9 +56,6 @@ scattered-more column at step many n place w w′ l e h S B c = wrote-more place
 
 -- ---- the degrees of a run of blocks, and runs one after another
 
-pub place-of : (t k m i : ℕ) → t * m + i + k * m ≡ (t + k) * m + i
-place-of t k m i = omega (arith, add-mul t k m)
-
 pub solved-none : (s n m z : ℕ) (places B w : List ℕ) → Solved s n m z z places B w w
 solved-none s n m z places B w = record { long = refl; still = λ k h. h; new = λ t e a b p q. absurd (omega arith) }
 
@@ -76,7 +74,7 @@ solved-degree {t} {many} {m} {z} {e} {places} {B} {w} {w′} {w″} S W =
           let s : e ≡ f = omega arith in
           let r : t + (u - t) ≡ u = omega arith in
           let o : t * m + getD places e 0 + (u - t) * m ≡ u * m + getD places f 0
-          = place-of t (u - t) m (getD places e 0) ∙ ap₂ (λ x y. x * m + getD places y 0) r s in
+          = place-on t (u - t) (getD places e 0) m ∙ ap₂ (λ x y. x * m + getD places y 0) r s in
           rw o at (W .new (u - t) (omega arith)))
           (lt-or-le f e);
     }

@@ -10,7 +10,7 @@ use Rattle.lists.specs.Table.{tabulate}
 use Rattle.interpolation.specs.Interpolation.{side, basisTable}
 use Rattle.scheme.specs.Outcome.{Outcome, accepted, refused, when, firstOf, answer}
 use Rattle.scheme.specs.Check.{refusal}
-use Rattle.scheme.specs.Readers.{partiesRefused}
+use Rattle.scheme.specs.Readers.{readersRefused}
 use Rattle.staircase.specs.Parameters.{Parameters, point}
 use Rattle.reader.specs.declared.BasisAnswer.{BasisAnswer}
 use Rattle.reader.specs.declared.BasisAnswer.the-variants.{Size, Refused}
@@ -26,7 +26,7 @@ basisRefusal p parties =
     firstOf
     (refusal (p .n) (p .r) (p .z) (p .counts)
     ∷ when 6 (not (occurs (length parties) (p .counts)))
-    ∷ when 7 (partiesRefused (p .n) parties)
+    ∷ when 7 (readersRefused (p .n) parties)
     ∷ [])
 
 -- accepted: the number of parties; the table is the other operation's

@@ -9,7 +9,7 @@ use Rattle.lists.specs.Each.{occurs}
 use Rattle.scheme.specs.Limits.{maxMessage}
 use Rattle.scheme.specs.Outcome.{Outcome, accepted, refused, when, firstOf, answer}
 use Rattle.scheme.specs.Check.{refusal, blockCount}
-use Rattle.scheme.specs.Readers.{partiesRefused}
+use Rattle.scheme.specs.Readers.{readersRefused}
 use Rattle.staircase.specs.Parameters.{Parameters, block}
 use Rattle.staircase.specs.Exactness.{prefixBytes, openedString}
 use Rattle.reader.specs.declared.ReconstructAnswer.{ReconstructAnswer}
@@ -27,7 +27,7 @@ reconstructRefusal p message parties prefixes out =
     (refusal (p .n) (p .r) (p .z) (p .counts)
     ∷ when 5 (ltb maxMessage message)
     ∷ when 6 (not (occurs (length parties) (p .counts)))
-    ∷ when 7 (partiesRefused (p .n) parties)
+    ∷ when 7 (readersRefused (p .n) parties)
     ∷ when 9 (not (eqb prefixes (prefixBytes p (length parties) (blockCount (block p) message))))
     ∷ when 10 (not (eqb out message))
     ∷ [])

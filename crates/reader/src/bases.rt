@@ -77,7 +77,7 @@ fn first_refusal(n: u8, r: u8, z: u8, counts: &[u8], parties: &[u8]) -> u8
     if !scheme::is_count(parties.len(), counts) {
         return 6;
     }
-    if scheme::parties_refused(s.n, parties) {
+    if scheme::readers_refused(s.n, parties) {
         return 7;
     }
     0

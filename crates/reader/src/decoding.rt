@@ -65,7 +65,7 @@ fn known(
     t: usize,
     m: usize,
 ) -> [[u8; LANES]; SIDE]
-    requires { ⌜ (d ≤ top) × (top ≤ side) × (t * m + m + lanes * m ≤ decoding.maxUsize) × ((e : ℕ) → d ≤ e → e < top → getD (now places) e 0 < m) ⌝ }
+    requires { ⌜ (d ≤ top) × (top ≤ side) × (t * m + m ≤ decoding.maxUsize) × ((e : ℕ) → d ≤ e → e < top → getD (now places) e 0 < m) ⌝ }
     ensures { λ r. ⌜ decoding.KnownColumns (now (work .entry)) (now (places .entry)) d top t m r ⌝ }
 {
     let mut known = [[0u8; LANES]; SIDE];

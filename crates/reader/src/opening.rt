@@ -9,7 +9,7 @@ ghost use Rattle.scheme.specs.Facts.{SchemeIs};
 ghost use Rattle.scheme.specs.Limits.{maxMessage, defaultN, defaultR, defaultZ, defaultCounts};
 ghost use Rattle.staircase.specs.Parameters.{parameters};
 ghost use Rattle.reader.specs.Reconstruct.{reconstructOutcome, reconstructAnswer, reconstructOutput};
-ghost use Rattle.scheme.specs.Readers.{partiesRefused};
+ghost use Rattle.scheme.specs.Readers.{readersRefused};
 ghost use Rattle.staircase.specs.Exactness.{openedString};
 ghost use Rattle.reader.specs.Decoding as decoding;
 use crate::ReconstructAnswer;
@@ -47,7 +47,7 @@ pub fn reconstruct(
     if !scheme::is_count(d, counts) {
         return ReconstructAnswer::Refused(6);
     }
-    if scheme::parties_refused(n, parties) {
+    if scheme::readers_refused(n, parties) {
         return ReconstructAnswer::Refused(7);
     }
     let blocks = scheme::block_count(s.block, message_length);
@@ -94,7 +94,7 @@ fn open(
     prefixes: &[u8],
     out: &mut [u8],
 ) -> usize
-    requires { ⌜ SchemeIs s (s .n) (s .r) (s .z) (now counts) × (occurs (length (now parties)) (now counts) ≡ true) × (partiesRefused (s .n) (now parties) ≡ false) × (length (now out) ≤ maxMessage) × (blocks ≡ blockCount (s .block) (length (now out))) × (length (now prefixes) ≡ length (now parties) * (rowsOfCount (s .block) (s .z) (length (now parties)) * blocks)) ⌝ }
+    requires { ⌜ SchemeIs s (s .n) (s .r) (s .z) (now counts) × (occurs (length (now parties)) (now counts) ≡ true) × (readersRefused (s .n) (now parties) ≡ false) × (length (now out) ≤ maxMessage) × (blocks ≡ blockCount (s .block) (length (now out))) × (length (now prefixes) ≡ length (now parties) * (rowsOfCount (s .block) (s .z) (length (now parties)) * blocks)) ⌝ }
     ensures { λ used. ⌜ (used ≡ length (now (parties .entry)) * (rowsOfCount (s .block) (s .z) (length (now (parties .entry))) * blocks)) × (now (out .exit) ≡ take (length (now (out .entry))) (openedString (parameters (s .n) (s .r) (s .z) (now (counts .entry))) (now (parties .entry)) blocks (now (prefixes .entry)))) ⌝ }
 {
     let points = points_of(parties);

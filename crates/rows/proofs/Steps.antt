@@ -2,7 +2,7 @@
 -- and that the code's numbers are small. By the definition; a bound above the row does not matter, since each step is in an earlier row.
 -- Assumes nothing.
 use mathlib.Core.Path.{_≡_, refl, sym, ap, _∙_}
-use mathlib.Core.Bool.{Bool, true, false, cond, _&&_}
+use mathlib.Core.Bool.{Bool, true, false, cond, _&&_, and-false}
 use mathlib.Core.List.{List}
 use mathlib.Core.Logic.{⊎-elim}
 use Prim.Native.Nat.{ℕ, zero, suc, _+_, _-_, _*_, _/_, _%_, _≤_, _<_}
@@ -24,11 +24,6 @@ under : (t : Bool) (a b other : ℕ) → (t ≡ true → a ≡ b) → cond t a o
 under true a b other h = h refl
 under false a b other h = refl
 
--- a test that fails in the second place
-false-right : (t : Bool) → t && false ≡ false
-false-right true = refl
-false-right false = refl
-
 module _ (m z : ℕ) (ds : List ℕ) where
   -- ---- with any bound
 
@@ -39,7 +34,7 @@ module _ (m z : ℕ) (ds : List ℕ) where
 
     past-in : getD ds (groupOf m z ds j) 0 ≤ e → foundIn m z ds (suc bound) j e ≡ 0
     unfolding foundIn
-    past-in h = rw (le-ltb e (getD ds (groupOf m z ds j) 0) h, false-right (leb z e))
+    past-in h = rw (le-ltb e (getD ds (groupOf m z ds j) 0) h, and-false (leb z e))
 
     module _ (i d : ℕ) (hi : i ≡ groupOf m z ds j) (hd : d ≡ getD ds i 0) (low : z ≤ e) (high : e < d) where
       first-in : i ≡ 0 → foundIn m z ds (suc bound) j e ≡ j * (d - z) + (e - z)
@@ -55,7 +50,7 @@ module _ (m z : ℕ) (ds : List ℕ) where
         late-in : j ≤ q / (above - d) → foundIn m z ds (suc bound) j e ≡ 0
         unfolding foundIn
         late-in h =
-            rw (← hi, ← hd, ← ha, ← hq, le-leb z e low, lt-ltb e d high, ne-eqb i 0 ne, le-ltb (q / (above - d)) j h, false-right (ltb d above))
+            rw (← hi, ← hd, ← ha, ← hq, le-leb z e low, lt-ltb e d high, ne-eqb i 0 ne, le-ltb (q / (above - d)) j h, and-false (ltb d above))
 
         copy-in : d < above → q / (above - d) < j
             → foundIn m z ds (suc bound) j e ≡ foundIn m z ds bound (q / (above - d)) (d + q % (above - d))

@@ -10,8 +10,7 @@ use borrow.Author.Tests.{eq-eqb, ne-eqb}
 use Rattle.scheme.specs.declared.SchemeAnswer.{SchemeAnswer}
 use Rattle.scheme.specs.declared.SchemeAnswer.the-variants.{Refused}
 use Rattle.scheme.specs.Outcome.{Outcome, accepted, refused, outcome, when, firstOf, answer}
-use Rattle.scheme.specs.BlockLength.{blockLength}
-use Rattle.scheme.specs.Check.{refusal, rowsOfBlock, checked}
+use Rattle.scheme.specs.Check.{refusal, checked}
 
 -- ---- the first number that is not 0
 
@@ -33,13 +32,6 @@ when-none q true h e = absurd (let no : ⊥ = omega arith in no)
 when-none q false h e = refl
 
 -- ---- the answer
-
--- the scheme's check answers in the same way
-checked-answer : (n r z : ℕ) (ds : List ℕ)
-    → checked n r z ds
-    ≡ answer (refusal n r z ds) (n ∷ r ∷ z ∷ blockLength z ds ∷ rowsOfBlock n r z (blockLength z ds) ∷ [])
-unfolding checked answer
-checked-answer n r z ds = refl
 
 pub answer-none : (q : ℕ) (vs : List ℕ) → q ≡ 0 → answer q vs ≡ accepted vs
 unfolding answer
@@ -70,8 +62,9 @@ answered-some (suc k) q v vs e = (sym (ap (λ (o : Outcome). o .number) (e ∙ a
 
 pub scheme-refused : (n r z : ℕ) (ds : List ℕ) (a : SchemeAnswer) (k q : ℕ) → outcome a ≡ checked n r z ds → a ≡ Refused k → q ≡ outcome a .number
     → (qs vs : List ℕ) → refused q ≡ answer (firstOf (refusal n r z ds ∷ qs)) vs
+unfolding checked
 scheme-refused n r z ds a k q e told is qs vs =
     let same : q ≡ k = is ∙ ap (λ (x : SchemeAnswer). outcome x .number) told in
     let out : refused q ≡ outcome a = ap refused same ∙ sym (ap outcome told) in
-    let first = answered-some (refusal n r z ds) q n _ (out ∙ e ∙ checked-answer n r z ds) in
+    let first = answered-some (refusal n r z ds) q n _ (out ∙ e) in
     rw (first-here (refusal n r z ds) qs (first .1), first .0) (sym (answer-some q vs (rw (first .0) at (first .1))))

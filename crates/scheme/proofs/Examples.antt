@@ -3,11 +3,12 @@
 use mathlib.Core.Path.{_≡_, refl}
 use mathlib.Core.List.{[], _∷_}
 use Rattle.scheme.specs.Limits.{defaultN, defaultR, defaultZ, defaultCounts}
+use Rattle.scheme.specs.Outcome.{firstOf}
 use Rattle.scheme.specs.BlockLength.{divides, firstFrom, product, blockLength}
 use Rattle.scheme.specs.Check.{falls, partiesRefused, thresholdsRefused, countsRefused, blockRefused, refusal, rowsOfCount, rowsOfBlock}
 
 pub default-accepted : refusal defaultN defaultR defaultZ defaultCounts ≡ 0
-unfolding divides firstFrom product blockLength falls partiesRefused thresholdsRefused countsRefused blockRefused refusal
+unfolding divides firstFrom product blockLength falls partiesRefused thresholdsRefused countsRefused blockRefused firstOf refusal
 default-accepted = refl
 
 -- z = 1. The counts 5 4 3 want 4, 3 and 2 to divide m, and make 3, 4 and 6 rows of 12; 9 8 7 6 reach the limit, though the product
@@ -23,5 +24,5 @@ pub examples :
     × (refusal 10 4 1 (10 ∷ 9 ∷ 8 ∷ 6 ∷ []) ≡ 4)
     × (refusal 3 1 1 (3 ∷ 2 ∷ []) ≡ 0)
     × (blockLength 1 (3 ∷ 2 ∷ []) ≡ 2)
-unfolding divides firstFrom product blockLength falls partiesRefused thresholdsRefused countsRefused blockRefused refusal rowsOfCount rowsOfBlock
+unfolding divides firstFrom product blockLength falls partiesRefused thresholdsRefused countsRefused blockRefused firstOf refusal rowsOfCount rowsOfBlock
 examples = (refl, refl, refl, refl, refl, refl, refl, refl, refl, refl)

@@ -1,8 +1,8 @@
 mod BlockLength
 mod Counts
+mod Answers
 mod Refusals
 mod Accepted
-mod Answers
 mod Parties
 mod Written
 mod Decimal

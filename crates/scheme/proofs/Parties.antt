@@ -14,7 +14,7 @@ use borrow.Author.Tests.{ltb-true, leb-true, not-false, lt-ltb, le-ltb, le-leb, 
 use Rattle.lists.specs.Each.{Each, Distinct}
 use Rattle.lists.proofs.Each.{each-imp}
 use Rattle.lists.proofs.Tests.{both, neither}
-use Rattle.scheme.specs.Readers.{rises, within, partiesRefused}
+use Rattle.scheme.specs.Readers.{rises, within, readersRefused}
 
 -- numbers that rise from above `below` and stay at most n
 rising : (n below : ℕ) (parties : List ℕ) → rises below parties ≡ true → within n parties ≡ true
@@ -30,9 +30,9 @@ rising n below (s ∷ parties) e w =
       ((low, leb-true s n (most .0)), each-imp (λ y. (s < y) × (y ≤ n)) (λ y. (below < y) × (y ≤ n)) (λ y h. (omega arith, h .1)) parties (rest .1)),
     )
 
-pub parties-distinct : (n : ℕ) (parties : List ℕ) → partiesRefused n parties ≡ false
+pub parties-distinct : (n : ℕ) (parties : List ℕ) → readersRefused n parties ≡ false
     → Distinct parties × Each (λ s. (1 ≤ s) × (s ≤ n)) parties
-unfolding partiesRefused
+unfolding readersRefused
 parties-distinct n parties e =
     let tests = neither (not (rises 0 parties)) (not (within n parties)) e in
     rising n 0 parties (not-false (rises 0 parties) (tests .0)) (not-false (within n parties) (tests .1))
@@ -43,8 +43,8 @@ unfoldable pub refusedFrom : ℕ → ℕ → List ℕ → Bool
 refusedFrom n below parties = not (rises below parties) || not (within n parties)
 
 module _ (n : ℕ) (parties : List ℕ) where
-  pub refused-start : partiesRefused n parties ≡ refusedFrom n 0 parties
-  unfolding partiesRefused refusedFrom
+  pub refused-start : readersRefused n parties ≡ refusedFrom n 0 parties
+  unfolding readersRefused refusedFrom
   refused-start = refl
 
   module _ (below i : ℕ) where

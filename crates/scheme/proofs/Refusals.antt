@@ -1,20 +1,21 @@
 -- The first refusal that applies, from facts about the parameters, and facts about the parameters from the refusals that do not apply:
 -- each test of the check is read both ways. What the code's check answers at each way out follows.
 -- Assumes nothing.
-use mathlib.Core.Path.{_≡_, refl, sym}
-use mathlib.Core.Bool.{Bool, true, false, cond, or-true}
+use mathlib.Core.Path.{_≡_, sym}
+use mathlib.Core.Bool.{true, false, or-true}
 use mathlib.Core.List.{List, [], _∷_}
-use Prim.Native.Nat.{ℕ, zero, suc, _+_, _-_, _/_, _≤_, _<_, min}
+use Prim.Native.Nat.{ℕ, suc, _+_, _-_, _/_, _≤_, _<_, min}
 use native.Mathlib.Nat.{min-le-left, sub-add-min-cancel}
 use native.Mathlib.Omega.{arith}
 use lib.Dec.{ltb, leb, eqb}
 use borrow.Author.Tests.{lt-ltb, le-ltb, le-leb, lt-leb, eq-eqb, ne-eqb, ltb-false, leb-false, eqb-false}
 use Rattle.lists.proofs.Tests.{neither}
 use Rattle.scheme.specs.Limits.{maxParties, maxBlock}
-use Rattle.scheme.specs.Outcome.{accepted, refused}
+use Rattle.scheme.specs.Outcome.{accepted, refused, firstOf}
 use Rattle.scheme.specs.BlockLength.{blockLength}
 use Rattle.scheme.specs.Check.{partiesRefused, thresholdsRefused, countsRefused, blockRefused, refusal, rowsOfBlock, checked}
 use Rattle.scheme.specs.Facts.{Sizes}
+use Rattle.scheme.proofs.Answers.{first-none, when-none, answer-none, answer-some, answer-number}
 
 pub sizes : (n r z : ℕ) → partiesRefused n ≡ false → thresholdsRefused n r z ≡ false → Sizes n r z
 unfolding partiesRefused thresholdsRefused
@@ -39,25 +40,25 @@ thresholds-pass n r z p h = rw (ne-eqb z 0 (λ e. omega arith), lt-leb n (r + z)
 -- the first refusal that applies
 module _ (n r z : ℕ) (ds : List ℕ) where
   refusal-1 : partiesRefused n ≡ true → refusal n r z ds ≡ 1
-  unfolding refusal
+  unfolding refusal firstOf
   refusal-1 p = rw p
 
   refusal-2 : partiesRefused n ≡ false → thresholdsRefused n r z ≡ true → refusal n r z ds ≡ 2
-  unfolding refusal
+  unfolding refusal firstOf
   refusal-2 p t = rw (p, t)
 
   refusal-3 : partiesRefused n ≡ false → thresholdsRefused n r z ≡ false → countsRefused n r ds ≡ true → refusal n r z ds ≡ 3
-  unfolding refusal
+  unfolding refusal firstOf
   refusal-3 p t s = rw (p, t, s)
 
   pub refusal-4 : partiesRefused n ≡ false → thresholdsRefused n r z ≡ false → countsRefused n r ds ≡ false → maxBlock < blockLength z ds
       → refusal n r z ds ≡ 4
-  unfolding refusal blockRefused
+  unfolding refusal firstOf blockRefused
   refusal-4 p t s h = rw (p, t, s, lt-ltb maxBlock (blockLength z ds) h)
 
   pub refusal-0 : partiesRefused n ≡ false → thresholdsRefused n r z ≡ false → countsRefused n r ds ≡ false → blockLength z ds ≤ maxBlock
       → refusal n r z ds ≡ 0
-  unfolding refusal blockRefused
+  unfolding refusal firstOf blockRefused
   refusal-0 p t s h = rw (p, t, s, le-ltb maxBlock (blockLength z ds) h)
 
 -- no refusal applies
@@ -67,42 +68,34 @@ pub record Passed (n r z : ℕ) (ds : List ℕ) : Type 0 where
   pub counts : countsRefused n r ds ≡ false
   pub block : blockLength z ds ≤ maxBlock
 
-past : (t : Bool) (q y : ℕ) → cond t (suc q) y ≡ 0 → (t ≡ false) × (y ≡ 0)
-past true q y e = absurd (let no : ⊥ = omega arith in no)
-past false q y e = (refl, e)
-
 pub passed : (n r z : ℕ) (ds : List ℕ) → refusal n r z ds ≡ 0 → Passed n r z ds
 unfolding refusal blockRefused
 passed n r z ds e =
-    let p1 = past (partiesRefused n) 0 _ e in
-    let p2 = past (thresholdsRefused n r z) 1 _ (p1 .1) in
-    let p3 = past (countsRefused n r ds) 2 _ (p2 .1) in
-    let p4 = past (ltb maxBlock (blockLength z ds)) 3 0 (p3 .1) in
+    let one = first-none _ _ e in
+    let two = first-none _ _ (one .1) in
+    let three = first-none _ _ (two .1) in
+    let four = first-none _ _ (three .1) in
     record {
-      parties = p1 .0;
-      thresholds = p2 .0;
-      counts = p3 .0;
-      block = ltb-false maxBlock (blockLength z ds) (p4 .0);
+      parties = when-none 1 _ (omega arith) (one .0);
+      thresholds = when-none 2 _ (omega arith) (two .0);
+      counts = when-none 3 _ (omega arith) (three .0);
+      block = ltb-false maxBlock (blockLength z ds) (when-none 4 _ (omega arith) (four .0));
     }
 
 -- what is answered
-number-by : (q : ℕ) (vs : List ℕ) → cond (eqb q 0) (accepted vs) (refused q) .number ≡ q
-number-by zero vs = refl
-number-by (suc q) vs = rw (ne-eqb (suc q) 0 (λ e. omega arith))
-
 module _ (n r z : ℕ) (ds : List ℕ) where
   pub checked-accepted : refusal n r z ds ≡ 0
       → checked n r z ds ≡ accepted (n ∷ r ∷ z ∷ blockLength z ds ∷ rowsOfBlock n r z (blockLength z ds) ∷ [])
   unfolding checked
-  checked-accepted e = rw (eq-eqb (refusal n r z ds) 0 e)
+  checked-accepted e = answer-none (refusal n r z ds) _ e
 
   checked-refused : (q : ℕ) → refusal n r z ds ≡ suc q → refused (suc q) ≡ checked n r z ds
   unfolding checked
-  checked-refused q e = rw (ne-eqb (refusal n r z ds) 0 (λ s. omega arith), e)
+  checked-refused q e = rw e (sym (answer-some (suc q) _ (omega arith)))
 
   pub refused-number : checked n r z ds .number ≡ refusal n r z ds
   unfolding checked
-  refused-number = number-by (refusal n r z ds) _
+  refused-number = answer-number (refusal n r z ds) _
 
   -- the code's ways out
   pub few-parties : n < 2 → refused 1 ≡ checked n r z ds

@@ -2,7 +2,7 @@
 -- count's line has at most 21 bytes, 8 of them 168, and the first line at most 25.
 -- Assumes nothing.
 use mathlib.Core.Path.{_≡_, refl, sym, ap, _∙_}
-use mathlib.Core.Bool.{Bool, true, false, cond}
+use mathlib.Core.Bool.{Bool, true, false}
 use mathlib.Core.List.{List, [], _∷_, _++_, append-nil, append-assoc}
 use mathlib.Core.Logic.{⊎-elim}
 use Prim.Native.Nat.{ℕ, suc, _-_, _*_, _/_, _<_, _≤_, suc-le-suc}
@@ -14,7 +14,7 @@ use Rattle.scheme.specs.declared.Scheme.{Scheme}
 use Rattle.scheme.specs.declared.SchemeAnswer.{SchemeAnswer}
 use Rattle.scheme.specs.declared.SchemeAnswer.the-variants.{Accepted, Refused}
 use Rattle.scheme.specs.Limits.{maxParties, maxBlock, defaultN, defaultR, defaultZ, defaultCounts}
-use Rattle.scheme.specs.Outcome.{Outcome, outcome}
+use Rattle.scheme.specs.Outcome.{Outcome, outcome, when, firstOf}
 use Rattle.scheme.specs.BlockLength.{blockLength}
 use Rattle.scheme.specs.Check.{partiesRefused, thresholdsRefused, countsRefused, blockRefused, refusal, rowsOfCount, rowsOfBlock, checked}
 use Rattle.scheme.specs.Sheet.{decimal, line, countLine, countLines, schemeText, sheetText, wordBlock, wordRows, wordRefused, maxInput}
@@ -49,7 +49,8 @@ count-lines-short m z (d ∷ ds) hm h =
     simp length-append
     (omega (arith, count-line-short m z d hm (h 0 (omega arith)), count-lines-short m z ds hm (λ i l. h (suc i) (suc-le-suc l))))
 
-number-most : (s t u v : Bool) → cond s 1 (cond t 2 (cond u 3 (cond v 4 0))) ≤ 4
+number-most : (s t u v : Bool) → firstOf (when 1 s ∷ when 2 t ∷ when 3 u ∷ when 4 v ∷ []) ≤ 4
+unfolding firstOf
 number-most true t u v = omega arith
 number-most false true u v = omega arith
 number-most false false true v = omega arith

@@ -1,12 +1,12 @@
 -- The check of a scheme (document 01's plan): n, r, z and the list of counts.
 -- Assumes nothing.
-use mathlib.Core.Bool.{Bool, true, cond, _&&_, _||_, not}
+use mathlib.Core.Bool.{Bool, true, _&&_, _||_, not}
 use mathlib.Core.List.{List, [], _∷_}
 use Prim.Native.Nat.{ℕ, _+_, _-_, _/_}
 use lib.Dec.{ltb, leb, eqb}
 use lib.ListN.{length, getD}
 use Rattle.scheme.specs.Limits.{maxParties, maxCounts, maxBlock}
-use Rattle.scheme.specs.Outcome.{Outcome, accepted, refused}
+use Rattle.scheme.specs.Outcome.{Outcome, when, firstOf, answer}
 use Rattle.scheme.specs.BlockLength.{blockLength}
 
 -- does the list fall strictly?
@@ -38,10 +38,12 @@ blockRefused z ds = ltb maxBlock (blockLength z ds)
 -- the first refusal that applies, or 0
 unfoldable pub refusal : ℕ → ℕ → ℕ → List ℕ → ℕ
 refusal n r z ds =
-    cond (partiesRefused n) 1
-    (cond (thresholdsRefused n r z) 2
-    (cond (countsRefused n r ds) 3
-    (cond (blockRefused z ds) 4 0)))
+    firstOf
+    (when 1 (partiesRefused n)
+    ∷ when 2 (thresholdsRefused n r z)
+    ∷ when 3 (countsRefused n r ds)
+    ∷ when 4 (blockRefused z ds)
+    ∷ [])
 
 -- P of a count d, in a scheme with block length m: the rows of a block that d parties send
 unfoldable pub rowsOfCount : ℕ → ℕ → ℕ → ℕ
@@ -57,7 +59,4 @@ blockCount m bytes = (bytes + (m - 1)) / m
 
 -- what the check answers
 unfoldable pub checked : ℕ → ℕ → ℕ → List ℕ → Outcome
-checked n r z ds =
-    cond (eqb (refusal n r z ds) 0)
-    (accepted (n ∷ r ∷ z ∷ blockLength z ds ∷ rowsOfBlock n r z (blockLength z ds) ∷ []))
-    (refused (refusal n r z ds))
+checked n r z ds = answer (refusal n r z ds) (n ∷ r ∷ z ∷ blockLength z ds ∷ rowsOfBlock n r z (blockLength z ds) ∷ [])

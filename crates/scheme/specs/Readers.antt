@@ -16,5 +16,5 @@ within n [] = true
 within n (s ∷ parties) = leb s n && within n parties
 
 -- refusal 7: the party numbers do not rise strictly, or one is outside 1 to n
-unfoldable pub partiesRefused : ℕ → List ℕ → Bool
-partiesRefused n parties = not (rises 0 parties) || not (within n parties)
+unfoldable pub readersRefused : ℕ → List ℕ → Bool
+readersRefused n parties = not (rises 0 parties) || not (within n parties)

@@ -17,7 +17,7 @@ mod writer;
 pub use printing::MAX_INPUT;
 pub use printing::sheet;
 pub use readers::is_count;
-pub use readers::parties_refused;
+pub use readers::readers_refused;
 pub use writer::Text;
 
 // An accepted scheme: its parameters, the block length m and the rows b of a block.

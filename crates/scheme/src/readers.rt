@@ -1,7 +1,7 @@
 // The readers (document 01's place of that name): is their number a count, and are they parties of the scheme?
 ghost use mathlib.Core.Path.{_≡_};
 ghost use Rattle.lists.specs.Each.{occurs};
-ghost use Rattle.scheme.specs.Readers.{partiesRefused};
+ghost use Rattle.scheme.specs.Readers.{readersRefused};
 
 // Is d one of the counts? Refusal 6 applies where it is not.
 pub fn is_count(d: usize, counts: &[u8]) -> bool
@@ -18,8 +18,8 @@ pub fn is_count(d: usize, counts: &[u8]) -> bool
 }
 
 // Does refusal 7 apply?
-pub fn parties_refused(n: u8, parties: &[u8]) -> bool
-    ensures { λ yes. ⌜ yes ≡ partiesRefused n (now (parties .entry)) ⌝ }
+pub fn readers_refused(n: u8, parties: &[u8]) -> bool
+    ensures { λ yes. ⌜ yes ≡ readersRefused n (now (parties .entry)) ⌝ }
 {
     // Each party is to be above the one before, the first above 0.
     let mut below: u8 = 0;

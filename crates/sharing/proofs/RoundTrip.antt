@@ -23,20 +23,20 @@ use Rattle.family.proofs.Exactness.{message-back}
 use Rattle.staircase.specs.Parameters.{Parameters, Accepted, Party, block, rows}
 use Rattle.staircase.specs.Shares.{staircase, partOf, KeyString}
 use Rattle.staircase.proofs.Hidden.{part-is-share}
-use Rattle.staircase.proofs.Exactness.{sent-most}
+use Rattle.staircase.proofs.Sizes.{rows-within}
 use Rattle.scheme.specs.Outcome.{firstOf}
 use Rattle.dealer.specs.Split.{splitOutput}
 use Rattle.party.specs.Prefix.{prefixRefusal, prefixLength, prefixOf}
-use Rattle.scheme.specs.Readers.{partiesRefused}
+use Rattle.scheme.specs.Readers.{readersRefused}
 use Rattle.staircase.specs.Exactness.{prefixBytes, openedString}
 use Rattle.reader.specs.Reconstruct.{reconstructRefusal, reconstructOutput}
 use Rattle.sharing.specs.Secrecy.{wanted}
 use Rattle.sharing.specs.RoundTrip.{handed, RoundTrip}
-use Rattle.staircase.proofs.WholeBlocks.{keys-number, place-of-count, exact, bytes-number}
+use Rattle.staircase.proofs.WholeBlocks.{keys-number, exact, bytes-number}
 use Rattle.dealer.proofs.Laws.{none-applies, written}
 
 module _ (p : Parameters) (A : Accepted p) (message keys : List ℕ) (bytes : Each Byte message) (short : length message ≤ maxMessage) (K : KeyString p (length message) keys)
-    (parties : List ℕ) (counted : occurs (length parties) (p .counts) ≡ true) (passed : partiesRefused (p .n) parties ≡ false)
+    (parties : List ℕ) (counted : occurs (length parties) (p .counts) ≡ true) (passed : readersRefused (p .n) parties ≡ false)
     (before : List ℕ) (room : length before ≡ wanted p (length message)) where
   abbrev N : ℕ
   N = blockCount (block p) (length message)
@@ -48,10 +48,7 @@ module _ (p : Parameters) (A : Accepted p) (message keys : List ℕ) (bytes : Ea
   prefixAt a = family.prefixOf (staircase p) parties rowsSent N (padded (block p) message) keys (getD parties a 0)
 
   rows-few : rowsSent ≤ rows p
-  rows-few =
-      let i = place-of-count (length parties) (p .counts) counted in
-      let v = parties-distinct (p .n) parties passed in
-      sent-most p A (i .0) (i .1) parties (v .1) (v .0) (i .2)
+  rows-few = rows-within p A (length parties) counted
 
   -- the share of a party as the splitter wrote it
   share-written : (a : ℕ) → a < length parties

@@ -14,8 +14,7 @@ use Rattle.interpolation.specs.Polynomial as polynomial
 use Rattle.interpolation.specs.Polynomial.{next, eval, plus, scale, linear}
 use Rattle.interpolation.specs.Interpolation.{through}
 use Rattle.scheme.specs.BlockLength.{divides, firstFrom, product, blockLength}
-use Rattle.scheme.specs.Check as check
-use Rattle.scheme.specs.Check.{falls, thresholdsRefused, countsRefused, blockRefused, refusal, rowsOfCount, rowsOfBlock, blockCount, checked}
+use Rattle.scheme.specs.Check.{falls, partiesRefused, thresholdsRefused, countsRefused, blockRefused, refusal, rowsOfCount, rowsOfBlock, blockCount, checked}
 use Rattle.family.specs.Message.{padded}
 use Rattle.family.specs.Family.{shareOfBlocks, sharesOfBlocks}
 use Rattle.family.specs.Exactness.{readings, openedBlocks}
@@ -25,7 +24,7 @@ use Rattle.staircase.specs.Coefficients.{groupOf, countOf, originIn, origin, co
 use Rattle.staircase.specs.Opening.{blockRow, upperPart, lowerPart, placed, openedFrom, openedBlock}
 use Rattle.staircase.specs.Shares.{staircase, shares, partOf}
 use Rattle.scheme.specs.Outcome.{firstOf, answer}
-use Rattle.scheme.specs.Readers.{rises, within, partiesRefused}
+use Rattle.scheme.specs.Readers.{rises, within, readersRefused}
 use Rattle.party.specs.Prefix.{prefixRefusal, prefixLength, prefixOf}
 use Rattle.dealer.specs.Split.{splitRefusal, splitAnswer, splitOutput}
 use Rattle.staircase.specs.Exactness.{prefixBytes, openedString}
@@ -62,7 +61,7 @@ _also_ : {A B : Type 0} → A → B → A × B
 a also b = (a, b)
 
 pub starred-hold : Each (Each Holds) starred
-unfolding _⊕_ _⊗_ gf256.product reduce cut inverse inverseBelow next eval plus scale linear polynomial.product through divides firstFrom product blockLength falls check.partiesRefused thresholdsRefused countsRefused blockRefused refusal rowsOfCount rowsOfBlock blockCount checked occurs tabulate joined piece pieces flat padded shareOfBlocks sharesOfBlocks readings openedBlocks point rowOf keyed copied withGroups rowsOf groupOf countOf originIn origin coefficient blockRow upperPart lowerPart placed openedFrom openedBlock staircase shares partOf firstOf answer rises within partiesRefused prefixRefusal prefixLength prefixOf splitRefusal splitAnswer prefixBytes reconstructRefusal reconstructAnswer openedString
+unfolding _⊕_ _⊗_ gf256.product reduce cut inverse inverseBelow next eval plus scale linear polynomial.product through divides firstFrom product blockLength falls partiesRefused thresholdsRefused countsRefused blockRefused refusal rowsOfCount rowsOfBlock blockCount checked occurs tabulate joined piece pieces flat padded shareOfBlocks sharesOfBlocks readings openedBlocks point rowOf keyed copied withGroups rowsOf groupOf countOf originIn origin coefficient blockRow upperPart lowerPart placed openedFrom openedBlock staircase shares partOf firstOf answer rises within readersRefused prefixRefusal prefixLength prefixOf splitRefusal splitAnswer prefixBytes reconstructRefusal reconstructAnswer openedString
 starred-hold =
     (refl, (refl, tt))
     also (refl, tt)

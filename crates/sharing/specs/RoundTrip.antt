@@ -10,7 +10,7 @@ use Rattle.lists.specs.Each.{Each, Byte, occurs}
 use Rattle.lists.specs.Table.{joined}
 use Rattle.scheme.specs.Limits.{maxMessage}
 use Rattle.scheme.specs.Check.{blockCount}
-use Rattle.scheme.specs.Readers.{partiesRefused}
+use Rattle.scheme.specs.Readers.{readersRefused}
 use Rattle.staircase.specs.Parameters.{Parameters, Accepted, block}
 use Rattle.staircase.specs.Shares.{partOf, KeyString}
 use Rattle.dealer.specs.Split.{splitOutput}
@@ -29,7 +29,7 @@ abbrev pub RoundTrip : Parameters → Type 0
 RoundTrip p =
     Accepted p
     → (message keys : List ℕ) → Each Byte message → length message ≤ maxMessage → KeyString p (length message) keys
-    → (parties : List ℕ) → occurs (length parties) (p .counts) ≡ true → partiesRefused (p .n) parties ≡ false
+    → (parties : List ℕ) → occurs (length parties) (p .counts) ≡ true → readersRefused (p .n) parties ≡ false
     → (before out : List ℕ) → length before ≡ wanted p (length message) → length out ≡ length message
     → let prefixes : List ℕ = handed p (length message) parties (splitOutput p message keys before) in
     (reconstructRefusal p (length message) parties (length prefixes) (length out) ≡ 0)

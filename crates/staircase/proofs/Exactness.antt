@@ -38,7 +38,7 @@ module _ (p : Parameters) (A : Accepted p) (i : ℕ) (at : i < length (p .counts
   as-many : length xs ≡ length parties
   as-many = length-map parties (point p)
 
-  pub sent-most : sent ≤ rows p
+  sent-most : sent ≤ rows p
   sent-most = rw many (rows-most (p .n) (p .r) (p .z) (p .counts) (block p) (rows p) facts i at)
 
   exact : BlockExact (block p) (rows p) (p .z) (p .counts) xs

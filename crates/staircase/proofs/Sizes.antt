@@ -1,20 +1,24 @@
 -- The numbers of an accepted scheme and of a message that is not too long are small, so that their products fit in a word; and the rows of
 -- each count are at most those of a block.
 -- Assumes nothing.
-use mathlib.Core.Path.{_≡_, sym, ap, _∙_}
-use mathlib.Core.Bool.{true, true≢false}
-use mathlib.Core.Logic.{_≢_}
+use mathlib.Core.Path.{_≡_, ap, _∙_}
+use mathlib.Core.Bool.{true}
 use Prim.Native.Nat.{ℕ, _-_, _*_, _/_, _≤_, _<_}
 use native.Mathlib.Nat.{div-le-of-le-mul, div-le-self, div-mul-le-self, le-div-iff-mul-le, le-trans, mul-le-mul-left, mul-le-mul}
 use native.Mathlib.Omega.{arith}
 use Rattle.lists.specs.Each.{occurs}
-use Rattle.lists.proofs.Each.{each-of, false-occurs}
+use Rattle.lists.proofs.Each.{occurs-place}
 use Rattle.scheme.specs.declared.Scheme.{Scheme}
 use Rattle.scheme.specs.Facts.{SchemeIs}
-use Rattle.scheme.specs.Limits.{maxBlock, maxMessage}
+use Rattle.scheme.specs.Limits.{maxParties, maxBlock, maxMessage}
 use Rattle.scheme.specs.Check.{rowsOfCount, rowsOfBlock, blockCount}
 use Rattle.scheme.proofs.Laws.{accepted}
 use Rattle.staircase.specs.Parameters.{Parameters, Accepted, block, rows}
+
+-- P is no more than the block length
+pub rows-few : (m z d P : ℕ) → m ≤ maxBlock → P ≡ rowsOfCount m z d → P ≤ maxBlock
+unfolding rowsOfCount
+rows-few m z d P h e = rw e (le-trans (div-le-self m (d - z)) h)
 
 module _ (p : Parameters) (good : Accepted p) where
   pub block-most : block p ≤ maxBlock
@@ -30,14 +34,15 @@ module _ (p : Parameters) (good : Accepted p) where
       let positive = accepted (p .n) (p .r) (p .z) (p .counts) good .least .positive in
       div-le-of-le-mul (block p) (omega arith)
 
-  -- no count is below n − r
-  count-low : (d : ℕ) → occurs d (p .counts) ≡ true → p .n - p .r ≤ d
-  count-low d e =
+  -- a count is at least n − r and at most n, so at most 16
+  count-within : (d : ℕ) → occurs d (p .counts) ≡ true → (p .n - p .r ≤ d) × (d ≤ p .n)
+  count-within d e =
       let a = accepted (p .n) (p .r) (p .z) (p .counts) good in
-      let no : d < p .n - p .r → ⊥ = λ l.
-      let none = each-of {A = ℕ} (λ x. d ≢ x) (p .counts) 0 (λ i h s. omega (arith, a .low i h)) in
-      true≢false (sym e ∙ false-occurs d (p .counts) none) in
-      omega arith
+      let at = occurs-place d (p .counts) e in
+      (omega (arith, at .2, a .low (at .0) (at .1)), omega (arith, at .2, a .high (at .0) (at .1)))
+
+  pub count-most : (d : ℕ) → occurs d (p .counts) ≡ true → d ≤ maxParties
+  count-most d e = le-trans (count-within d e .1) (accepted (p .n) (p .r) (p .z) (p .counts) good .sizes .parties-high)
 
   -- P is at most b
   pub rows-within : (d : ℕ) → occurs d (p .counts) ≡ true → rowsOfCount (block p) (p .z) d ≤ rows p
@@ -45,7 +50,7 @@ module _ (p : Parameters) (good : Accepted p) where
   rows-within d e =
       let s = accepted (p .n) (p .r) (p .z) (p .counts) good .sizes in
       let k : 0 < p .n - p .r - p .z = omega (arith, s .room) in
-      let l : p .n - p .r - p .z ≤ d - p .z = omega (arith, count-low d e) in
+      let l : p .n - p .r - p .z ≤ d - p .z = omega (arith, count-within d e .0) in
       le-div-iff-mul-le k .1 (le-trans (mul-le-mul-left (block p / (d - p .z)) l) (div-mul-le-self (block p) (d - p .z)))
 
 -- the code's numbers: s is what the check answers, and N the blocks of the message
@@ -68,8 +73,4 @@ module _ (p : Parameters) (s : Scheme) (is : SchemeIs s (p .n) (p .r) (p .z) (p 
 
     -- P × N
     pub prefix-small : (z d P : ℕ) → P ≡ rowsOfCount (s .block) z d → P * N ≤ maxBlock * maxMessage
-    unfolding rowsOfCount
-    prefix-small z d P e =
-        let m-most : s .block ≤ maxBlock = rw (is .block-is) (block-most p (is .passed)) in
-        let P-most : P ≤ maxBlock = rw e (le-trans (div-le-self (s .block) (d - z)) m-most) in
-        mul-le-mul P-most blocks-few
+    prefix-small z d P e = mul-le-mul (rows-few (s .block) z d P (rw (is .block-is) (block-most p (is .passed))) e) blocks-few

@@ -14,7 +14,7 @@ use Rattle.lists.proofs.Each.{occurs-place}
 use Rattle.lists.proofs.Joined.{below-product}
 use Rattle.lists.proofs.Piece.{getD-piece}
 use Rattle.scheme.specs.Check.{blockCount, rowsOfCount}
-use Rattle.scheme.specs.Readers.{partiesRefused}
+use Rattle.scheme.specs.Readers.{readersRefused}
 use Rattle.scheme.proofs.Laws.{parties-distinct}
 use Rattle.family.specs.Message.{Bytes}
 use Rattle.family.specs.Exactness as family
@@ -23,25 +23,21 @@ use Rattle.staircase.specs.Parameters.{Parameters, Accepted, Party, bloc
 use Rattle.staircase.specs.Shares.{staircase}
 use Rattle.staircase.specs.Opening.{openedBlock}
 use Rattle.staircase.specs.Exactness.{prefixBytes, openedString, Opened, Exactness}
-use Rattle.staircase.proofs.Exactness.{staircase-exact, sent-most}
+use Rattle.staircase.proofs.Exactness.{staircase-exact}
+use Rattle.staircase.proofs.Sizes.{rows-within}
 
 -- the keys of N blocks, in the order of the factors that document 01 writes
 pub keys-number : (p : Parameters) (N : ℕ) → N * staircase p .keys ≡ N * p .z * rows p
 unfolding staircase
 keys-number p N = ap (λ (k : ℕ). N * k) (mul-comm (rows p) (p .z)) ∙ sym (mul-assoc N (p .z) (rows p))
 
--- the place of a count in the list
-pub place-of-count : (d : ℕ) (ds : List ℕ) → occurs d ds ≡ true → (i : ℕ) × (i < length ds) × (d ≡ getD ds i 0)
-place-of-count d ds e =
-    let at = occurs-place d ds e in
-    (at .0, at .1, sym (at .2))
-
-module _ (p : Parameters) (A : Accepted p) (parties : List ℕ) (counted : occurs (length parties) (p .counts) ≡ true) (passed : partiesRefused (p .n) parties ≡ false) where
+module _ (p : Parameters) (A : Accepted p) (parties : List ℕ) (counted : occurs (length parties) (p .counts) ≡ true) (passed : readersRefused (p .n) parties ≡ false) where
   abbrev sent : ℕ
   sent = rowsOfCount (block p) (p .z) (length parties)
 
-  at : (i : ℕ) × (i < length (p .counts)) × (length parties ≡ getD (p .counts) i 0)
-  at = place-of-count (length parties) (p .counts) counted
+  -- the place of their number among the counts
+  at : (i : ℕ) × (i < length (p .counts)) × (getD (p .counts) i 0 ≡ length parties)
+  at = occurs-place (length parties) (p .counts) counted
 
   valid : Distinct parties × Each (Party p) parties
   valid = parties-distinct (p .n) parties passed
@@ -50,8 +46,8 @@ module _ (p : Parameters) (A : Accepted p) (parties : List ℕ) (counted : occur
   pub exact : (N : ℕ) → family.Exact (staircase p) parties sent (sent * p .z) (openedBlock (block p) (p .z) (p .counts) (map (point p) parties)) N
   unfolding staircase
   exact =
-      blocks-exact (staircase p) parties sent (sent * p .z) _ _ (sent-most p A (at .0) (at .1) parties (valid .1) (valid .0) (at .2))
-      (staircase-exact p A (at .0) (at .1) parties (valid .1) (valid .0) (at .2))
+      blocks-exact (staircase p) parties sent (sent * p .z) _ _ (rows-within p A (length parties) counted)
+      (staircase-exact p A (at .0) (at .1) parties (valid .1) (valid .0) (sym (at .2)))
 
   pub bytes-number : (N : ℕ) → prefixBytes p (length parties) N ≡ length parties * (sent * N)
   unfolding prefixBytes
@@ -62,7 +58,7 @@ module _ (p : Parameters) (A : Accepted p) (parties : List ℕ) (counted : occur
       → getD (take (sent * p .z) (piece (staircase p .keys) t keys)) (j * p .z + e) 0 ≡ getD keys ((t * rows p + j) * p .z + e) 0
   unfolding staircase
   key-at N t j e keys hj he =
-      let few = sent-most p A (at .0) (at .1) parties (valid .1) (valid .0) (at .2) in
+      let few = rows-within p A (length parties) counted in
       let place : t * (rows p * p .z) + (j * p .z + e) ≡ (t * rows p + j) * p .z + e =
       omega (arith, add-mul (t * rows p) j (p .z), mul-assoc t (rows p) (p .z)) in
       getD-take (sent * p .z) (piece (rows p * p .z) t keys) (j * p .z + e) 0 (below-product j sent e (p .z) hj he)

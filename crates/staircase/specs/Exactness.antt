@@ -8,7 +8,7 @@ use lib.ListN.{length, getD}
 use Rattle.lists.specs.Each.{occurs}
 use Rattle.scheme.specs.Limits.{maxMessage}
 use Rattle.scheme.specs.Check.{blockCount, rowsOfCount}
-use Rattle.scheme.specs.Readers.{partiesRefused}
+use Rattle.scheme.specs.Readers.{readersRefused}
 use Rattle.family.specs.Message.{Bytes}
 use Rattle.family.specs.Exactness as family
 use Rattle.family.specs.Exactness.{openedBlocks}
@@ -52,6 +52,6 @@ abbrev pub Exactness : Parameters → Type 0
 Exactness p =
     Accepted p
     → (message : ℕ) → message ≤ maxMessage
-    → (parties : List ℕ) → occurs (length parties) (p .counts) ≡ true → partiesRefused (p .n) parties ≡ false
+    → (parties : List ℕ) → occurs (length parties) (p .counts) ≡ true → readersRefused (p .n) parties ≡ false
     → (prefixes : List ℕ) → Bytes (prefixBytes p (length parties) (blockCount (block p) message)) prefixes
     → Opened p message parties prefixes

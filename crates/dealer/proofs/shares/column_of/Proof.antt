@@ -54,13 +54,13 @@ column-of-spec =
     (λ c. omega (arith, keys-before (c .before)))
     (λ c. omega (arith, keys-before (c .before)))
     (λ c. omega (arith, keys-apart (c .before)))
-    (λ c κs. omega (arith, keys-before (c .before), keys-apart (c .before)))
+    (λ c κs. search needs)
     (λ c ds o.
     let w = c .before .before in
     rw (← w .wide .ensures, lt-ltb (start w .args .e) (w .wide .result) (c .before .if1 .taken)) (c .gather .ensures))
     (λ c. omega (arith, bytes-before (c .before)))
     (λ c. omega (arith, bytes-before (c .before), inside c))
-    (λ c κs. omega (arith, bytes-before (c .before), inside c))
+    (λ c κs. search needs)
     (λ c ds o.
     let w = c .before .before in
     rw (← o (from (c .before)), ← w .wide .ensures, le-ltb (start w .args .e) (w .wide .result) (c .before .if1 .left)) (c .gather2 .ensures)))

@@ -34,9 +34,9 @@ first-refusal-spec =
     let q = c .before in
     let k = q .before .before in
     let count = sym (k .is-count .ensures) ∙ not-false (k .is-count .result) (q .before .if1 .left) in
-    not-rising _ _ _ (scheme-of (k .before)) count (sym (q .parties-refused .ensures) ∙ c .if2 .taken))
+    not-rising _ _ _ (scheme-of (k .before)) count (sym (q .readers-refused .ensures) ∙ c .if2 .taken))
     (λ c.
     let q = c .before in
     let k = q .before .before in
     let count = sym (k .is-count .ensures) ∙ not-false (k .is-count .result) (q .before .if1 .left) in
-    none-applies _ _ _ (scheme-of (k .before)) count (sym (q .parties-refused .ensures) ∙ c .if2 .left)))
+    none-applies _ _ _ (scheme-of (k .before)) count (sym (q .readers-refused .ensures) ∙ c .if2 .left)))

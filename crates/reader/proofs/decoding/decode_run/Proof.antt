@@ -9,11 +9,11 @@ use native.Mathlib.Nat.{le-refl, mul-le-mul}
 use native.Mathlib.Omega.{arith}
 use lib.ListN.{length, getD}
 use borrow.Author.Needs.{needs}
-use Rattle.lists.proofs.Joined.{row-room}
+use Rattle.lists.proofs.Joined.{row-room, place-on}
 use Rattle.interpolation.specs.Interpolation.{side}
 use Rattle.scheme.specs.Limits.{maxBlock, maxMessage}
 use Rattle.reader.specs.Decoding.{combined, Solved}
-use Rattle.reader.proofs.Writes.{place-of, solved-none, solved-degree}
+use Rattle.reader.proofs.Writes.{solved-none, solved-degree}
 use Rattle.reader.proofs.RowStep.{run-step}
 use Rattle.reader.proofs.decoding.decode_run.Statement.{statement}
 use Rattle.reader.proofs.decoding.decode_run.Tie as tie
@@ -57,7 +57,7 @@ room c k h =
     let p = s .args .sizes in
     omega (
       arith,
-      place-of (s .args .t) k (p .block) (getD (s .args .places .now) (c .before .loop .e) 0),
+      place-on (s .args .t) k (getD (s .args .places .now) (c .before .loop .e) 0) (p .block),
       row-room (s .args .t + k) (p .blocks) (p .block) (omega (arith, s .pre .3)),
       near c,
       s .pre .0 .work-long,

@@ -11,8 +11,8 @@ use Rattle.lists.specs.Each.{Byte}
 use Rattle.lists.proofs.Each.{each-of}
 use Rattle.interpolation.specs.Interpolation.{side}
 use Rattle.staircase.specs.Parameters.{parameters}
-use Rattle.staircase.proofs.Sizes.{blocks-few}
-use Rattle.reader.proofs.OpenerAnswers.{few, covers, fits-buffer}
+use Rattle.staircase.proofs.Sizes.{count-most, blocks-few}
+use Rattle.reader.proofs.OpenerAnswers.{covers, fits-buffer}
 use Rattle.reader.proofs.Reading.{begins}
 use Rattle.reader.proofs.opening.open.Statement.{statement}
 use Rattle.reader.proofs.opening.open.Tie as tie
@@ -21,7 +21,7 @@ use Rattle.reader.proofs.opening.open.Tie as tie
 few-of : (c : tie.After-slice-known) → length (c .before .before .before .before .args .parties .now) ≤ side
 few-of c =
     let s = c .before .before .before .before in
-    few (parameters (s .args .s .n) (s .args .s .r) (s .args .s .z) (s .args .counts .now)) (s .args .s) (s .pre .0) (s .args .parties .now) (s .pre .1) (s .pre .2)
+    count-most (parameters (s .args .s .n) (s .args .s .r) (s .args .s .z) (s .args .counts .now)) (s .pre .0 .passed) (length (s .args .parties .now)) (s .pre .1)
 
 pub open-spec : {M : Type 1} → statement M
 open-spec =

@@ -11,8 +11,9 @@ use Rattle.lists.specs.Each.{occurs}
 use Rattle.scheme.specs.Outcome.{outcome}
 use Rattle.scheme.specs.Facts.{SchemeIs}
 use Rattle.scheme.proofs.Laws.{accepted-scheme, scheme-own}
-use Rattle.scheme.specs.Readers.{partiesRefused}
-use Rattle.reader.proofs.OpenerAnswers.{scheme-refuses, message-long, no-count, not-rising, other-prefixes, other-output, none-applies, refuses, few, bytes-are, bytes-parts, rows-small, bytes-small, opens}
+use Rattle.scheme.specs.Readers.{readersRefused}
+use Rattle.staircase.proofs.Sizes.{count-most}
+use Rattle.reader.proofs.OpenerAnswers.{scheme-refuses, message-long, no-count, not-rising, other-prefixes, other-output, none-applies, refuses, bytes-are, bytes-parts, rows-small, bytes-small, opens}
 use Rattle.reader.proofs.opening.reconstruct.Statement.{statement}
 use Rattle.reader.proofs.opening.reconstruct.Tie as tie
 
@@ -31,8 +32,8 @@ count-of c = sym (c .before .is-count .ensures) ∙ not-false (c .before .is-cou
 -- past refusal 7
 passed-of : (c : tie.Else3)
     → let a = c .before .before .before .before .before .before .before .before .before .before .before .before .before .args in
-    partiesRefused (a .n) (a .parties .now) ≡ false
-passed-of c = sym (c .before .parties-refused .ensures) ∙ c .if3 .left
+    readersRefused (a .n) (a .parties .now) ≡ false
+passed-of c = sym (c .before .readers-refused .ensures) ∙ c .if3 .left
 
 pub reconstruct-spec : {M : Type 1} → statement M
 reconstruct-spec =
@@ -58,7 +59,7 @@ reconstruct-spec =
     let r = c .before in
     let e = r .before .before .before in
     refuses _ _ _ _ _ _
-    (not-rising _ (scheme-of (e .before) .passed) _ _ _ _ (e .if1 .left) (count-of (r .before)) (sym (r .parties-refused .ensures) ∙ c .if3 .taken)))
+    (not-rising _ (scheme-of (e .before) .passed) _ _ _ _ (e .if1 .left) (count-of (r .before)) (sym (r .readers-refused .ensures) ∙ c .if3 .taken)))
     (λ c κs. search needs)
     (λ c κs. search needs)
     (λ c.
@@ -66,13 +67,13 @@ reconstruct-spec =
     let r = b .before .before in
     let e = r .before .before .before in
     let is = scheme-of (e .before) in
-    omega (arith, rows-small _ _ is _ _ (b .block-count .ensures) (e .if1 .left) _ _ (c .rows-of-count .ensures) (few _ _ is _ (count-of (r .before)) (passed-of (b .before)))))
+    omega (arith, rows-small _ _ is _ _ (b .block-count .ensures) (e .if1 .left) _ _ (c .rows-of-count .ensures) (count-most _ (is .passed) _ (count-of (r .before)))))
     (λ c.
     let b = c .before in
     let r = b .before .before in
     let e = r .before .before .before in
     let is = scheme-of (e .before) in
-    omega (arith, bytes-small _ _ is _ _ (b .block-count .ensures) (e .if1 .left) _ _ (c .rows-of-count .ensures) (few _ _ is _ (count-of (r .before)) (passed-of (b .before)))))
+    omega (arith, bytes-small _ _ is _ _ (b .block-count .ensures) (e .if1 .left) _ _ (c .rows-of-count .ensures) (count-most _ (is .passed) _ (count-of (r .before)))))
     (λ c.
     let b = c .before .before in
     let r = b .before .before in

@@ -1,4 +1,4 @@
--- `scheme::readers::parties_refused` meets its contract. The invariant: refusal 7 applies exactly if it applies to the parties from place i on,
+-- `scheme::readers::readers_refused` meets its contract. The invariant: refusal 7 applies exactly if it applies to the parties from place i on,
 -- after the one before. The measure is what is left.
 -- Assumes nothing.
 use mathlib.Core.Path.{_≡_, sym, _∙_}
@@ -6,19 +6,19 @@ use Prim.Native.Nat.{_-_}
 use native.Mathlib.Omega.{arith}
 use lib.ListN.{length, drop}
 use borrow.Author.Needs.{needs}
-use Rattle.scheme.specs.Readers.{partiesRefused}
+use Rattle.scheme.specs.Readers.{readersRefused}
 use Rattle.scheme.proofs.Parties.{refusedFrom, refused-start, refused-end, refused-low, refused-high, refused-next}
-use Rattle.scheme.proofs.readers.parties_refused.Statement.{statement}
-use Rattle.scheme.proofs.readers.parties_refused.Tie as tie
+use Rattle.scheme.proofs.readers.readers_refused.Statement.{statement}
+use Rattle.scheme.proofs.readers.readers_refused.Tie as tie
 
 abbrev Inv-loop : tie.InvT-loop
-Inv-loop n parties below₀ i₀ below i = partiesRefused n parties ≡ refusedFrom n below (drop i parties)
+Inv-loop n parties below₀ i₀ below i = readersRefused n parties ≡ refusedFrom n below (drop i parties)
 
 abbrev μ-loop : tie.MeasureT-loop
 μ-loop n parties below₀ i₀ below i = length parties - i
 
-pub parties-refused-spec : {M : Type 1} → statement M
-parties-refused-spec =
+pub readers-refused-spec : {M : Type 1} → statement M
+readers-refused-spec =
     tie.close
     (tie.spec Inv-loop μ-loop
     (λ c. refused-start _ _)
