@@ -14,7 +14,7 @@ use Rattle.scheme.specs.declared.SchemeAnswer.{SchemeAnswer}
 use Rattle.scheme.specs.declared.SchemeAnswer.the-variants.{Refused}
 use Rattle.scheme.specs.Facts.{SchemeIs}
 use Rattle.scheme.specs.Limits.{maxParties, maxBlock, maxMessage}
-use Rattle.scheme.specs.Outcome.{accepted, refused, outcome, firstOf, answer}
+use Rattle.scheme.specs.Outcome.{accepted, refused, schemeOutcome, firstOf, answer}
 use Rattle.scheme.specs.Check.{checked, blockCount}
 use Rattle.scheme.proofs.Laws.{accepted as accepted-facts, first-none, when-none, answer-none, answered-some, scheme-refused}
 use Rattle.family.specs.Message.{padded}
@@ -29,8 +29,8 @@ use Rattle.staircase.proofs.Sizes.{rows-most, blocks-are, blocks-few, share-len
 -- ---- the answer, from the three lengths
 
 -- the scheme's own refusals
-pub scheme-refuses : (p : Parameters) (message keys out : ℕ) (a : SchemeAnswer) (k q : ℕ) → outcome a ≡ checked (p .n) (p .r) (p .z) (p .counts)
-    → a ≡ Refused k → q ≡ outcome a .number → refused q ≡ splitAnswer p message keys out
+pub scheme-refuses : (p : Parameters) (message keys out : ℕ) (a : SchemeAnswer) (k q : ℕ) → schemeOutcome a ≡ checked (p .n) (p .r) (p .z) (p .counts)
+    → a ≡ Refused k → q ≡ schemeOutcome a .number → refused q ≡ splitAnswer p message keys out
 unfolding splitAnswer splitRefusal
 scheme-refuses p message keys out a k q e told is = scheme-refused (p .n) (p .r) (p .z) (p .counts) a k q e told is _ _
 

@@ -6,17 +6,10 @@ use Prim.Native.Nat.{ℕ, _*_}
 use lib.Dec.{ltb, eqb}
 use lib.ListN.{length}
 use Rattle.scheme.specs.Limits.{maxMessage}
-use Rattle.scheme.specs.Outcome.{Outcome, accepted, refused, when, firstOf, answer}
+use Rattle.scheme.specs.Outcome.{Outcome, when, firstOf, answer}
 use Rattle.scheme.specs.Check.{refusal, blockCount}
 use Rattle.staircase.specs.Parameters.{Parameters, block, rows}
 use Rattle.staircase.specs.Shares.{shares}
-use Rattle.dealer.specs.declared.SplitAnswer.{SplitAnswer}
-use Rattle.dealer.specs.declared.SplitAnswer.the-variants.{Written, Refused}
-
--- the cases of the answer: the bytes of a share
-abbrev pub splitOutcome : SplitAnswer → Outcome
-splitOutcome (Written bytes) = accepted (bytes ∷ [])
-splitOutcome (Refused number) = refused number
 
 -- the first refusal that applies to a message, keys and an output of so many bytes
 unfoldable pub splitRefusal : Parameters → ℕ → ℕ → ℕ → ℕ

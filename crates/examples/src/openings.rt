@@ -1,6 +1,5 @@
 // Openings in document 01's plan A: what parties send, and what the opener makes of it.
 use crate::printing;
-use sharing::ReconstructAnswer;
 
 // All three parties send.
 pub(crate) fn of_three() {
@@ -29,10 +28,8 @@ fn send(party: usize, d: usize, share: [u8; 2]) {
 fn open(parties: &[u8], prefixes: &[u8]) {
     let mut out = [0u8; 2];
     printing::bytes(b"parties", parties);
-    match sharing::reconstruct(3, 1, 1, &[3, 2], 2, parties, prefixes, &mut out) {
-        ReconstructAnswer::Used(bytes) => printing::number(b" used", bytes),
-        ReconstructAnswer::Refused(number) => printing::refused(number),
-    }
+    let used = sharing::reconstruct(3, 1, 1, &[3, 2], 2, parties, prefixes, &mut out);
+    printing::answer(b" used", used);
     printing::bytes(b" message", &out);
     printing::end_line();
 }

@@ -1,5 +1,6 @@
 // What is printed: words, each followed by numbers in decimal.
 use libc::STDOUT_FILENO;
+use sharing::Answer;
 
 pub(crate) fn word(text: &[u8]) {
     io::write_all(STDOUT_FILENO, text);
@@ -30,4 +31,12 @@ pub(crate) fn bytes(text: &[u8], values: &[u8]) {
 
 pub(crate) fn refused(number: u8) {
     byte(b" refused", number);
+}
+
+// A call's answer, with a word for what it answers when it is accepted.
+pub(crate) fn answer(text: &[u8], answer: Answer) {
+    match answer {
+        Answer::Accepted(value) => number(text, value),
+        Answer::Refused(number) => refused(number),
+    }
 }

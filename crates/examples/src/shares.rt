@@ -1,6 +1,5 @@
 // Shares in document 01's plan A: what the splitter writes.
 use crate::printing;
-use sharing::SplitAnswer;
 
 // The rows k0 + m0 x + m1 x^2 and k1 + m1 x, told by their values where one of the four bytes is 1 and
 // the others are 0: k0, m0, m1 and k1 in turn. They are those of 1, x or x^2 at the points 1, 2 and 3.
@@ -41,10 +40,8 @@ fn show(message: [u8; 2], keys: [u8; 2]) {
 fn split(message: &[u8], keys: &[u8], out: &mut [u8]) {
     printing::bytes(b"message", message);
     printing::bytes(b" keys", keys);
-    match sharing::split(3, 1, 1, &[3, 2], message, keys, out) {
-        SplitAnswer::Written(bytes) => printing::number(b" written", bytes),
-        SplitAnswer::Refused(number) => printing::refused(number),
-    }
+    let written = sharing::split(3, 1, 1, &[3, 2], message, keys, out);
+    printing::answer(b" written", written);
 }
 
 // The bytes from one place up to another, or all of them where there are no such places.

@@ -3,20 +3,17 @@
 ghost use mathlib.Core.Path.{_≡_};
 ghost use Rattle.gf256.specs.Byte.{_⊗_, inverse};
 ghost use Rattle.scheme.specs.Limits.{defaultN, defaultR, defaultZ, defaultCounts};
-ghost use Rattle.scheme.specs.Outcome.{outcome};
+ghost use Rattle.scheme.specs.Outcome.{outcome, schemeOutcome};
 ghost use Rattle.scheme.specs.Check.{checked};
 ghost use lib.ListN.{length};
-ghost use Rattle.staircase.specs.Parameters.{parameters};
-ghost use Rattle.dealer.specs.Split.{splitOutcome, splitAnswer, splitOutput};
-ghost use Rattle.party.specs.Prefix.{prefixOutcome, prefixAnswer};
-ghost use Rattle.reader.specs.Basis.{basisOutcome, basisRefusal, basisOf};
-ghost use Rattle.reader.specs.Reconstruct.{reconstructOutcome, reconstructAnswer, reconstructOutput};
+ghost use Rattle.staircase.specs.Parameters.{parameters, defaultParameters};
+ghost use Rattle.dealer.specs.Split.{splitAnswer, splitOutput};
+ghost use Rattle.party.specs.Prefix.{prefixAnswer};
+ghost use Rattle.reader.specs.Basis.{basisRefusal, basisOf};
+ghost use Rattle.reader.specs.Reconstruct.{reconstructAnswer, reconstructOutput};
 ghost use Rattle.exports.specs.Fields.{flattened, schemeFields, checkedFields, answerFields, valueFields};
 use scheme::SchemeAnswer;
-use sharing::BasisAnswer;
-use sharing::PrefixAnswer;
-use sharing::ReconstructAnswer;
-use sharing::SplitAnswer;
+use sharing::Answer;
 
 #[repr(C)]
 pub struct SharingScheme {
@@ -74,7 +71,7 @@ pub extern "C" fn sharing_check_default() -> SharingScheme
 }
 
 fn scheme_fields(answer: SchemeAnswer) -> SharingScheme
-    ensures { λ s. ⌜ schemeFields s ≡ checkedFields (outcome answer) ⌝ }
+    ensures { λ s. ⌜ schemeFields s ≡ checkedFields (schemeOutcome answer) ⌝ }
 {
     match answer {
         SchemeAnswer::Accepted(s) => SharingScheme {
@@ -86,6 +83,21 @@ fn scheme_fields(answer: SchemeAnswer) -> SharingScheme
             refusal: number as u64,
             block: 0,
             rows: 0,
+        },
+    }
+}
+
+fn fields(answer: Answer) -> SharingAnswer
+    ensures { λ a. ⌜ answerFields a ≡ valueFields (outcome answer) ⌝ }
+{
+    match answer {
+        Answer::Accepted(value) => SharingAnswer {
+            refusal: 0,
+            value: value as u64,
+        },
+        Answer::Refused(number) => SharingAnswer {
+            refusal: number as u64,
+            value: 0,
         },
     }
 }
@@ -102,7 +114,7 @@ pub extern "C" fn sharing_split(
 ) -> SharingAnswer
     ensures { λ a. ⌜ (answerFields a ≡ valueFields (splitAnswer (parameters n r z (now (counts .entry))) (length (now (message .entry))) (length (now (keys .entry))) (length (now (out .entry))))) × (now (out .exit) ≡ splitOutput (parameters n r z (now (counts .entry))) (now (message .entry)) (now (keys .entry)) (now (out .entry))) ⌝ }
 {
-    split_fields(sharing::split(n, r, z, counts, message, keys, out))
+    fields(sharing::split(n, r, z, counts, message, keys, out))
 }
 
 #[no_mangle]
@@ -111,9 +123,9 @@ pub extern "C" fn sharing_split_default(
     keys: &[u8],
     out: &mut [u8],
 ) -> SharingAnswer
-    ensures { λ a. ⌜ (answerFields a ≡ valueFields (splitAnswer (parameters defaultN defaultR defaultZ defaultCounts) (length (now (message .entry))) (length (now (keys .entry))) (length (now (out .entry))))) × (now (out .exit) ≡ splitOutput (parameters defaultN defaultR defaultZ defaultCounts) (now (message .entry)) (now (keys .entry)) (now (out .entry))) ⌝ }
+    ensures { λ a. ⌜ (answerFields a ≡ valueFields (splitAnswer defaultParameters (length (now (message .entry))) (length (now (keys .entry))) (length (now (out .entry))))) × (now (out .exit) ≡ splitOutput defaultParameters (now (message .entry)) (now (keys .entry)) (now (out .entry))) ⌝ }
 {
-    split_fields(sharing::split_default(message, keys, out))
+    fields(sharing::split_default(message, keys, out))
 }
 
 // The prefix is the first `value` bytes of the share.
@@ -129,7 +141,7 @@ pub extern "C" fn sharing_prefix(
 ) -> SharingAnswer
     ensures { λ a. ⌜ answerFields a ≡ valueFields (prefixAnswer (parameters n r z (now (counts .entry))) «message_length» d (length (now (share .entry)))) ⌝ }
 {
-    prefix_fields(sharing::prefix_length(n, r, z, counts, message_length, d, share))
+    fields(sharing::prefix_length(n, r, z, counts, message_length, d, share))
 }
 
 #[no_mangle]
@@ -138,65 +150,32 @@ pub extern "C" fn sharing_prefix_default(
     d: usize,
     share: &[u8],
 ) -> SharingAnswer
-    ensures { λ a. ⌜ answerFields a ≡ valueFields (prefixAnswer (parameters defaultN defaultR defaultZ defaultCounts) «message_length» d (length (now (share .entry)))) ⌝ }
+    ensures { λ a. ⌜ answerFields a ≡ valueFields (prefixAnswer defaultParameters «message_length» d (length (now (share .entry)))) ⌝ }
 {
-    prefix_fields(sharing::prefix_length_default(message_length, d, share))
-}
-
-fn split_fields(answer: SplitAnswer) -> SharingAnswer
-    ensures { λ a. ⌜ answerFields a ≡ valueFields (splitOutcome answer) ⌝ }
-{
-    match answer {
-        SplitAnswer::Written(bytes) => SharingAnswer {
-            refusal: 0,
-            value: bytes as u64,
-        },
-        SplitAnswer::Refused(number) => SharingAnswer {
-            refusal: number as u64,
-            value: 0,
-        },
-    }
-}
-
-fn prefix_fields(answer: PrefixAnswer) -> SharingAnswer
-    ensures { λ a. ⌜ answerFields a ≡ valueFields (prefixOutcome answer) ⌝ }
-{
-    match answer {
-        PrefixAnswer::Length(bytes) => SharingAnswer {
-            refusal: 0,
-            value: bytes as u64,
-        },
-        PrefixAnswer::Refused(number) => SharingAnswer {
-            refusal: number as u64,
-            value: 0,
-        },
-    }
+    fields(sharing::prefix_length_default(message_length, d, share))
 }
 
 #[no_mangle]
 pub extern "C" fn sharing_basis(n: u8, r: u8, z: u8, counts: &[u8], parties: &[u8]) -> SharingBasis
     ensures { λ a. ⌜ (a .refusal ≡ basisRefusal (parameters n r z (now (counts .entry))) (now (parties .entry))) × (a .weights ≡ flattened (basisOf (parameters n r z (now (counts .entry))) (now (parties .entry)))) ⌝ }
 {
-    let refusal = basis_number(sharing::basis_size(n, r, z, counts, parties));
+    let size = fields(sharing::basis_size(n, r, z, counts, parties));
     let weights = in_one_row(sharing::basis(n, r, z, counts, parties));
-    SharingBasis { refusal, weights }
+    SharingBasis {
+        refusal: size.refusal,
+        weights,
+    }
 }
 
 #[no_mangle]
 pub extern "C" fn sharing_basis_default(parties: &[u8]) -> SharingBasis
-    ensures { λ a. ⌜ (a .refusal ≡ basisRefusal (parameters defaultN defaultR defaultZ defaultCounts) (now (parties .entry))) × (a .weights ≡ flattened (basisOf (parameters defaultN defaultR defaultZ defaultCounts) (now (parties .entry)))) ⌝ }
+    ensures { λ a. ⌜ (a .refusal ≡ basisRefusal defaultParameters (now (parties .entry))) × (a .weights ≡ flattened (basisOf defaultParameters (now (parties .entry)))) ⌝ }
 {
-    let refusal = basis_number(sharing::basis_size_default(parties));
+    let size = fields(sharing::basis_size_default(parties));
     let weights = in_one_row(sharing::basis_default(parties));
-    SharingBasis { refusal, weights }
-}
-
-fn basis_number(answer: BasisAnswer) -> u64
-    ensures { λ q. ⌜ q ≡ basisOutcome answer .number ⌝ }
-{
-    match answer {
-        BasisAnswer::Size(_) => 0,
-        BasisAnswer::Refused(number) => number as u64,
+    SharingBasis {
+        refusal: size.refusal,
+        weights,
     }
 }
 
@@ -226,16 +205,7 @@ pub extern "C" fn sharing_reconstruct(
 ) -> SharingAnswer
     ensures { λ a. ⌜ (answerFields a ≡ valueFields (reconstructAnswer (parameters n r z (now (counts .entry))) «message_length» (now (parties .entry)) (length (now (prefixes .entry))) (length (now (out .entry))))) × (now (out .exit) ≡ reconstructOutput (parameters n r z (now (counts .entry))) «message_length» (now (parties .entry)) (now (prefixes .entry)) (now (out .entry))) ⌝ }
 {
-    reconstruct_fields(sharing::reconstruct(
-        n,
-        r,
-        z,
-        counts,
-        message_length,
-        parties,
-        prefixes,
-        out,
-    ))
+    fields(sharing::reconstruct(n, r, z, counts, message_length, parties, prefixes, out))
 }
 
 #[no_mangle]
@@ -245,22 +215,7 @@ pub extern "C" fn sharing_reconstruct_default(
     prefixes: &[u8],
     out: &mut [u8],
 ) -> SharingAnswer
-    ensures { λ a. ⌜ (answerFields a ≡ valueFields (reconstructAnswer (parameters defaultN defaultR defaultZ defaultCounts) «message_length» (now (parties .entry)) (length (now (prefixes .entry))) (length (now (out .entry))))) × (now (out .exit) ≡ reconstructOutput (parameters defaultN defaultR defaultZ defaultCounts) «message_length» (now (parties .entry)) (now (prefixes .entry)) (now (out .entry))) ⌝ }
+    ensures { λ a. ⌜ (answerFields a ≡ valueFields (reconstructAnswer defaultParameters «message_length» (now (parties .entry)) (length (now (prefixes .entry))) (length (now (out .entry))))) × (now (out .exit) ≡ reconstructOutput defaultParameters «message_length» (now (parties .entry)) (now (prefixes .entry)) (now (out .entry))) ⌝ }
 {
-    reconstruct_fields(sharing::reconstruct_default(message_length, parties, prefixes, out))
-}
-
-fn reconstruct_fields(answer: ReconstructAnswer) -> SharingAnswer
-    ensures { λ a. ⌜ answerFields a ≡ valueFields (reconstructOutcome answer) ⌝ }
-{
-    match answer {
-        ReconstructAnswer::Used(bytes) => SharingAnswer {
-            refusal: 0,
-            value: bytes as u64,
-        },
-        ReconstructAnswer::Refused(number) => SharingAnswer {
-            refusal: number as u64,
-            value: 0,
-        },
-    }
+    fields(sharing::reconstruct_default(message_length, parties, prefixes, out))
 }

@@ -12,21 +12,21 @@ use borrow.Author.Tests.{lt-ltb, le-ltb, eq-eqb, ne-eqb, ltb-false, eqb-true, no
 use Rattle.lists.specs.Each.{occurs}
 use Rattle.scheme.specs.declared.Scheme.{Scheme}
 use Rattle.scheme.specs.declared.SchemeAnswer.{SchemeAnswer}
-use Rattle.scheme.specs.declared.SchemeAnswer.the-variants.{Refused}
+use Rattle.scheme.specs.declared.SchemeAnswer.the-variants.{Refused as SchemeRefused}
+use Rattle.scheme.specs.declared.Answer.{Answer}
+use Rattle.scheme.specs.declared.Answer.the-variants.{Accepted as Answered, Refused}
 use Rattle.scheme.specs.Facts.{SchemeIs}
 use Rattle.scheme.specs.Limits.{maxMessage}
-use Rattle.scheme.specs.Outcome.{accepted, refused, outcome, firstOf, answer}
+use Rattle.scheme.specs.Outcome.{accepted, refused, outcome, schemeOutcome, firstOf, answer}
 use Rattle.scheme.specs.Check.{checked, rowsOfCount, blockCount}
 use Rattle.staircase.specs.Parameters.{Parameters, Accepted, block, rows}
-use Rattle.party.specs.declared.PrefixAnswer.{PrefixAnswer}
-use Rattle.party.specs.declared.PrefixAnswer.the-variants.{Length, Refused as NotHanded}
-use Rattle.party.specs.Prefix.{prefixOutcome, prefixRefusal, prefixLength, prefixAnswer, prefixOf}
+use Rattle.party.specs.Prefix.{prefixRefusal, prefixLength, prefixAnswer, prefixOf}
 use Rattle.scheme.proofs.Laws.{first-none, when-none, answered-none, answered-some, scheme-refused}
 use Rattle.staircase.proofs.Sizes.{rows-within, blocks-are}
 
 -- the scheme's own refusals
-pub scheme-refuses : (p : Parameters) (message d share : ℕ) (a : SchemeAnswer) (k q : ℕ) → outcome a ≡ checked (p .n) (p .r) (p .z) (p .counts)
-    → a ≡ Refused k → q ≡ outcome a .number → refused q ≡ prefixAnswer p message d share
+pub scheme-refuses : (p : Parameters) (message d share : ℕ) (a : SchemeAnswer) (k q : ℕ) → schemeOutcome a ≡ checked (p .n) (p .r) (p .z) (p .counts)
+    → a ≡ SchemeRefused k → q ≡ schemeOutcome a .number → refused q ≡ prefixAnswer p message d share
 unfolding prefixAnswer prefixRefusal
 scheme-refuses p message d share a k q e told is = scheme-refused (p .n) (p .r) (p .z) (p .counts) a k q e told is _ _
 
@@ -95,18 +95,18 @@ module _ (p : Parameters) (message d : ℕ) (share : List ℕ) where
   prefix-whole e = simp e (length-take-le _ share (prefix-within p message d (length share) e))
 
   -- the code's two ways out, from the answer a for the length
-  module _ (a : PrefixAnswer) (e : prefixOutcome a ≡ prefixAnswer p message d (length share)) where
-    pub part-none : (q : ℕ) → a ≡ NotHanded q → [] ≡ prefixOf p message d share
+  module _ (a : Answer) (e : outcome a ≡ prefixAnswer p message d (length share)) where
+    pub part-none : (q : ℕ) → a ≡ Refused q → [] ≡ prefixOf p message d share
     unfolding prefixAnswer prefixOf
     part-none q told =
-        let some = answered-some _ q _ [] (sym (ap prefixOutcome told) ∙ e) in
+        let some = answered-some _ q _ [] (sym (ap outcome told) ∙ e) in
         rw (ne-eqb (prefixRefusal p message d (length share)) 0 (λ s. omega (arith, some .1)))
 
-    module _ (bytes : ℕ) (told : a ≡ Length bytes) where
+    module _ (bytes : ℕ) (told : a ≡ Answered bytes) where
       passed : (prefixRefusal p message d (length share) ≡ 0) × (bytes ≡ prefixLength p message d)
       unfolding prefixAnswer
       passed =
-          let none = answered-none _ _ _ (sym (ap prefixOutcome told) ∙ e) in
+          let none = answered-none _ _ _ (sym (ap outcome told) ∙ e) in
           (none .0, cc (none .1))
 
       pub part-long : bytes ≡ length (take bytes share)

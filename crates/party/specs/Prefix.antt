@@ -7,16 +7,9 @@ use lib.Dec.{ltb, eqb}
 use lib.ListN.{length, take}
 use Rattle.lists.specs.Each.{occurs}
 use Rattle.scheme.specs.Limits.{maxMessage}
-use Rattle.scheme.specs.Outcome.{Outcome, accepted, refused, when, firstOf, answer}
+use Rattle.scheme.specs.Outcome.{Outcome, when, firstOf, answer}
 use Rattle.scheme.specs.Check.{refusal, blockCount, rowsOfCount}
 use Rattle.staircase.specs.Parameters.{Parameters, block, rows}
-use Rattle.party.specs.declared.PrefixAnswer.{PrefixAnswer}
-use Rattle.party.specs.declared.PrefixAnswer.the-variants.{Length, Refused}
-
--- the cases of the answer: the prefix's length
-abbrev pub prefixOutcome : PrefixAnswer → Outcome
-prefixOutcome (Length bytes) = accepted (bytes ∷ [])
-prefixOutcome (Refused number) = refused number
 
 -- the first refusal that applies to a message's length, a count and a share of so many bytes
 unfoldable pub prefixRefusal : Parameters → ℕ → ℕ → ℕ → ℕ

@@ -2,17 +2,12 @@
 // read.
 ghost use mathlib.Core.Path.{_≡_};
 ghost use lib.ListN.{length};
-ghost use Rattle.scheme.specs.Limits.{defaultN, defaultR, defaultZ, defaultCounts};
-ghost use Rattle.staircase.specs.Parameters.{parameters};
-ghost use Rattle.party.specs.Prefix.{prefixOutcome, prefixAnswer, prefixOf};
+ghost use Rattle.scheme.specs.Outcome.{outcome};
+ghost use Rattle.staircase.specs.Parameters.{parameters, defaultParameters};
+ghost use Rattle.party.specs.Prefix.{prefixAnswer, prefixOf};
+use scheme::Answer;
 use scheme::SchemeAnswer;
 use scheme::limits;
-
-// The answer for a prefix: its length, or the number of the first refusal that applies.
-pub enum PrefixAnswer {
-    Length(usize),
-    Refused(u8),
-}
 
 // The length of the prefix for the count d of a share of a message of so many bytes. Refusals 1 to
 // 4: those of the scheme. 5: the message is too long. 6: d is not a count. 9: the share's length is
@@ -25,24 +20,24 @@ pub fn prefix_length(
     message_length: usize,
     d: usize,
     share: &[u8],
-) -> PrefixAnswer
-    ensures { λ a. ⌜ prefixOutcome a ≡ prefixAnswer (parameters n r z (now (counts .entry))) «message_length» d (length (now (share .entry))) ⌝ }
+) -> Answer
+    ensures { λ a. ⌜ outcome a ≡ prefixAnswer (parameters n r z (now (counts .entry))) «message_length» d (length (now (share .entry))) ⌝ }
 {
     let answer = scheme::check(n, r, z, counts);
     let SchemeAnswer::Accepted(s) = answer else {
-        return PrefixAnswer::Refused(scheme::refusal(answer));
+        return Answer::Refused(scheme::refusal(answer));
     };
     if limits::MAX_MESSAGE < message_length {
-        return PrefixAnswer::Refused(5);
+        return Answer::Refused(5);
     }
     if !scheme::is_count(d, counts) {
-        return PrefixAnswer::Refused(6);
+        return Answer::Refused(6);
     }
     let blocks = scheme::block_count(s.block, message_length);
     if share.len() != blocks * s.rows {
-        return PrefixAnswer::Refused(9);
+        return Answer::Refused(9);
     }
-    PrefixAnswer::Length(scheme::rows_of_count(s.block, z, d) * blocks)
+    Answer::Accepted(scheme::rows_of_count(s.block, z, d) * blocks)
 }
 
 // The prefix itself: the beginning of the lent share, empty on a refusal.
@@ -58,15 +53,15 @@ pub fn prefix<'a>(
     ensures { λ part. ⌜ (now part ≡ prefixOf (parameters n r z (now (counts .entry))) «message_length» d (now (share .entry))) × (part .ptr ≡ share .entry .ptr) ⌝ }
 {
     let answer = prefix_length(n, r, z, counts, message_length, d, share);
-    let PrefixAnswer::Length(bytes) = answer else {
+    let Answer::Accepted(bytes) = answer else {
         return &share[..0];
     };
     &share[..bytes]
 }
 
 // The prefix's length in the default scheme.
-pub fn prefix_length_default(message_length: usize, d: usize, share: &[u8]) -> PrefixAnswer
-    ensures { λ a. ⌜ prefixOutcome a ≡ prefixAnswer (parameters defaultN defaultR defaultZ defaultCounts) «message_length» d (length (now (share .entry))) ⌝ }
+pub fn prefix_length_default(message_length: usize, d: usize, share: &[u8]) -> Answer
+    ensures { λ a. ⌜ outcome a ≡ prefixAnswer defaultParameters «message_length» d (length (now (share .entry))) ⌝ }
 {
     let counts = limits::DEFAULT_COUNTS;
     prefix_length(
@@ -82,7 +77,7 @@ pub fn prefix_length_default(message_length: usize, d: usize, share: &[u8]) -> P
 
 // The prefix in the default scheme.
 pub fn prefix_default<'a>(message_length: usize, d: usize, share: &'a [u8]) -> &'a [u8]
-    ensures { λ part. ⌜ (now part ≡ prefixOf (parameters defaultN defaultR defaultZ defaultCounts) «message_length» d (now (share .entry))) × (part .ptr ≡ share .entry .ptr) ⌝ }
+    ensures { λ part. ⌜ (now part ≡ prefixOf defaultParameters «message_length» d (now (share .entry))) × (part .ptr ≡ share .entry .ptr) ⌝ }
 {
     let counts = limits::DEFAULT_COUNTS;
     prefix(

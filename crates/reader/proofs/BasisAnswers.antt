@@ -16,7 +16,7 @@ use Rattle.interpolation.specs.Interpolation.{side, basisTable}
 use Rattle.scheme.specs.declared.Scheme.{Scheme}
 use Rattle.scheme.specs.declared.SchemeAnswer.{SchemeAnswer}
 use Rattle.scheme.specs.declared.SchemeAnswer.the-variants.{Refused}
-use Rattle.scheme.specs.Outcome.{Outcome, accepted, refused, outcome, firstOf}
+use Rattle.scheme.specs.Outcome.{Outcome, accepted, refused, schemeOutcome, firstOf}
 use Rattle.scheme.specs.Facts.{SchemeIs}
 use Rattle.scheme.specs.Check.{checked}
 use Rattle.scheme.proofs.Laws as scheme
@@ -30,8 +30,8 @@ use Rattle.scheme.proofs.Laws.{first-none, when-none, answer-none, answer-some,
 
 module _ (p : Parameters) (parties : List ℕ) where
   -- the scheme's own
-  pub scheme-refuses : (a : SchemeAnswer) (k q : ℕ) → outcome a ≡ checked (p .n) (p .r) (p .z) (p .counts) → a ≡ Refused k
-      → q ≡ outcome a .number → q ≡ basisRefusal p parties
+  pub scheme-refuses : (a : SchemeAnswer) (k q : ℕ) → schemeOutcome a ≡ checked (p .n) (p .r) (p .z) (p .counts) → a ≡ Refused k
+      → q ≡ schemeOutcome a .number → q ≡ basisRefusal p parties
   unfolding basisRefusal
   scheme-refuses a k q e told is =
       ap (λ (o : Outcome). o .number) (scheme-refused (p .n) (p .r) (p .z) (p .counts) a k q e told is _ []) ∙ answer-number _ []

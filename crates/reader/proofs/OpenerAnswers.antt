@@ -15,7 +15,7 @@ use Rattle.scheme.specs.declared.SchemeAnswer.{SchemeAnswer}
 use Rattle.scheme.specs.declared.SchemeAnswer.the-variants.{Refused}
 use Rattle.scheme.specs.Facts.{SchemeIs}
 use Rattle.scheme.specs.Limits.{maxBlock, maxMessage}
-use Rattle.scheme.specs.Outcome.{accepted, refused, outcome, firstOf, answer}
+use Rattle.scheme.specs.Outcome.{accepted, refused, schemeOutcome, firstOf, answer}
 use Rattle.scheme.specs.Check.{checked, rowsOfCount, blockCount}
 use Rattle.scheme.proofs.Laws as scheme
 use Rattle.family.proofs.Message.{blocks-cover}
@@ -30,7 +30,7 @@ use Rattle.staircase.proofs.Sizes.{rows-few, block-most, blocks-are, blocks-few
 
 -- the scheme's own refusals
 pub scheme-refuses : (p : Parameters) (message : ℕ) (parties : List ℕ) (prefixes out : ℕ) (a : SchemeAnswer) (k q : ℕ)
-    → outcome a ≡ checked (p .n) (p .r) (p .z) (p .counts) → a ≡ Refused k → q ≡ outcome a .number
+    → schemeOutcome a ≡ checked (p .n) (p .r) (p .z) (p .counts) → a ≡ Refused k → q ≡ schemeOutcome a .number
     → refused q ≡ reconstructAnswer p message parties prefixes out
 unfolding reconstructAnswer reconstructRefusal
 scheme-refuses p message parties prefixes out a k q e told is = scheme-refused (p .n) (p .r) (p .z) (p .counts) a k q e told is _ _

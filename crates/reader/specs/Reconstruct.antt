@@ -7,18 +7,11 @@ use lib.Dec.{ltb, eqb}
 use lib.ListN.{length, take}
 use Rattle.lists.specs.Each.{occurs}
 use Rattle.scheme.specs.Limits.{maxMessage}
-use Rattle.scheme.specs.Outcome.{Outcome, accepted, refused, when, firstOf, answer}
+use Rattle.scheme.specs.Outcome.{Outcome, when, firstOf, answer}
 use Rattle.scheme.specs.Check.{refusal, blockCount}
 use Rattle.scheme.specs.Readers.{readersRefused}
 use Rattle.staircase.specs.Parameters.{Parameters, block}
 use Rattle.staircase.specs.Exactness.{prefixBytes, openedString}
-use Rattle.reader.specs.declared.ReconstructAnswer.{ReconstructAnswer}
-use Rattle.reader.specs.declared.ReconstructAnswer.the-variants.{Used, Refused}
-
--- the cases of the answer: the prefix bytes used
-abbrev pub reconstructOutcome : ReconstructAnswer → Outcome
-reconstructOutcome (Used bytes) = accepted (bytes ∷ [])
-reconstructOutcome (Refused number) = refused number
 
 -- the first refusal that applies to a message's length, a list of parties, and prefixes and an output of so many bytes
 unfoldable pub reconstructRefusal : Parameters → ℕ → List ℕ → ℕ → ℕ → ℕ

@@ -4,24 +4,24 @@ ghost use mathlib.Core.List.{map};
 ghost use Prim.Native.Nat.{_≤_};
 ghost use lib.ListN.{length, take};
 ghost use Rattle.interpolation.specs.Interpolation.{side};
-ghost use Rattle.scheme.specs.Limits.{defaultN, defaultR, defaultZ, defaultCounts};
-ghost use Rattle.staircase.specs.Parameters.{Parameters, parameters, point};
-ghost use Rattle.reader.specs.Basis.{basisOutcome, basisRefusal, basisAnswer, basisOf};
-use crate::BasisAnswer;
+ghost use Rattle.scheme.specs.Outcome.{outcome};
+ghost use Rattle.staircase.specs.Parameters.{Parameters, parameters, defaultParameters, point};
+ghost use Rattle.reader.specs.Basis.{basisRefusal, basisAnswer, basisOf};
 use interpolation::SIDE;
+use scheme::Answer;
 use scheme::SchemeAnswer;
 use scheme::limits;
 
 // The size of the basis for these parties, which is their number. Refusals 1 to 4: those of the scheme. 6: their number is
 // not a count. 7: their numbers do not rise strictly, or one is outside 1 to n.
-pub fn basis_size(n: u8, r: u8, z: u8, counts: &[u8], parties: &[u8]) -> BasisAnswer
-    ensures { λ a. ⌜ basisOutcome a ≡ basisAnswer (parameters n r z (now (counts .entry))) (now (parties .entry)) ⌝ }
+pub fn basis_size(n: u8, r: u8, z: u8, counts: &[u8], parties: &[u8]) -> Answer
+    ensures { λ a. ⌜ outcome a ≡ basisAnswer (parameters n r z (now (counts .entry))) (now (parties .entry)) ⌝ }
 {
     let number = first_refusal(n, r, z, counts, parties);
     if number == 0 {
-        return BasisAnswer::Size(parties.len());
+        return Answer::Accepted(parties.len());
     }
-    BasisAnswer::Refused(number)
+    Answer::Refused(number)
 }
 
 // The basis itself: in row i, at column e, the coefficient of degree e of the polynomial of degree below
@@ -39,8 +39,8 @@ pub fn basis(n: u8, r: u8, z: u8, counts: &[u8], parties: &[u8]) -> [[u8; SIDE];
 }
 
 // The size of the basis in the default scheme.
-pub fn basis_size_default(parties: &[u8]) -> BasisAnswer
-    ensures { λ a. ⌜ basisOutcome a ≡ basisAnswer (parameters defaultN defaultR defaultZ defaultCounts) (now (parties .entry)) ⌝ }
+pub fn basis_size_default(parties: &[u8]) -> Answer
+    ensures { λ a. ⌜ outcome a ≡ basisAnswer defaultParameters (now (parties .entry)) ⌝ }
 {
     let counts = limits::DEFAULT_COUNTS;
     basis_size(
@@ -54,7 +54,7 @@ pub fn basis_size_default(parties: &[u8]) -> BasisAnswer
 
 // The basis in the default scheme.
 pub fn basis_default(parties: &[u8]) -> [[u8; SIDE]; SIDE]
-    ensures { λ w. ⌜ w ≡ basisOf (parameters defaultN defaultR defaultZ defaultCounts) (now (parties .entry)) ⌝ }
+    ensures { λ w. ⌜ w ≡ basisOf defaultParameters (now (parties .entry)) ⌝ }
 {
     let counts = limits::DEFAULT_COUNTS;
     basis(

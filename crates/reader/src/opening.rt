@@ -5,17 +5,18 @@ ghost use Prim.Native.Nat.{_*_, _≤_};
 ghost use lib.ListN.{length, take};
 ghost use Rattle.lists.specs.Each.{occurs};
 ghost use Rattle.scheme.specs.Check.{rowsOfCount, blockCount};
+ghost use Rattle.scheme.specs.Outcome.{outcome};
 ghost use Rattle.scheme.specs.Facts.{SchemeIs};
-ghost use Rattle.scheme.specs.Limits.{maxMessage, defaultN, defaultR, defaultZ, defaultCounts};
-ghost use Rattle.staircase.specs.Parameters.{parameters};
-ghost use Rattle.reader.specs.Reconstruct.{reconstructOutcome, reconstructAnswer, reconstructOutput};
+ghost use Rattle.scheme.specs.Limits.{maxMessage};
+ghost use Rattle.staircase.specs.Parameters.{parameters, defaultParameters};
+ghost use Rattle.reader.specs.Reconstruct.{reconstructAnswer, reconstructOutput};
 ghost use Rattle.scheme.specs.Readers.{readersRefused};
 ghost use Rattle.staircase.specs.Exactness.{openedString};
 ghost use Rattle.reader.specs.Decoding as decoding;
-use crate::ReconstructAnswer;
 use crate::bases::points_of;
 use crate::decoding;
 use interpolation::SIDE;
+use scheme::Answer;
 use scheme::Scheme;
 use scheme::SchemeAnswer;
 use scheme::limits;
@@ -33,31 +34,31 @@ pub fn reconstruct(
     parties: &[u8],
     prefixes: &[u8],
     out: &mut [u8],
-) -> ReconstructAnswer
-    ensures { λ a. ⌜ (reconstructOutcome a ≡ reconstructAnswer (parameters n r z (now (counts .entry))) «message_length» (now (parties .entry)) (length (now (prefixes .entry))) (length (now (out .entry)))) × (now (out .exit) ≡ reconstructOutput (parameters n r z (now (counts .entry))) «message_length» (now (parties .entry)) (now (prefixes .entry)) (now (out .entry))) ⌝ }
+) -> Answer
+    ensures { λ a. ⌜ (outcome a ≡ reconstructAnswer (parameters n r z (now (counts .entry))) «message_length» (now (parties .entry)) (length (now (prefixes .entry))) (length (now (out .entry)))) × (now (out .exit) ≡ reconstructOutput (parameters n r z (now (counts .entry))) «message_length» (now (parties .entry)) (now (prefixes .entry)) (now (out .entry))) ⌝ }
 {
     let answer = scheme::check(n, r, z, counts);
     let SchemeAnswer::Accepted(s) = answer else {
-        return ReconstructAnswer::Refused(scheme::refusal(answer));
+        return Answer::Refused(scheme::refusal(answer));
     };
     if limits::MAX_MESSAGE < message_length {
-        return ReconstructAnswer::Refused(5);
+        return Answer::Refused(5);
     }
     let d = parties.len();
     if !scheme::is_count(d, counts) {
-        return ReconstructAnswer::Refused(6);
+        return Answer::Refused(6);
     }
     if scheme::readers_refused(n, parties) {
-        return ReconstructAnswer::Refused(7);
+        return Answer::Refused(7);
     }
     let blocks = scheme::block_count(s.block, message_length);
     if prefixes.len() != d * scheme::rows_of_count(s.block, z, d) * blocks {
-        return ReconstructAnswer::Refused(9);
+        return Answer::Refused(9);
     }
     if out.len() != message_length {
-        return ReconstructAnswer::Refused(10);
+        return Answer::Refused(10);
     }
-    ReconstructAnswer::Used(open(s, counts, blocks, parties, prefixes, out))
+    Answer::Accepted(open(s, counts, blocks, parties, prefixes, out))
 }
 
 // The same in the default scheme.
@@ -66,8 +67,8 @@ pub fn reconstruct_default(
     parties: &[u8],
     prefixes: &[u8],
     out: &mut [u8],
-) -> ReconstructAnswer
-    ensures { λ a. ⌜ (reconstructOutcome a ≡ reconstructAnswer (parameters defaultN defaultR defaultZ defaultCounts) «message_length» (now (parties .entry)) (length (now (prefixes .entry))) (length (now (out .entry)))) × (now (out .exit) ≡ reconstructOutput (parameters defaultN defaultR defaultZ defaultCounts) «message_length» (now (parties .entry)) (now (prefixes .entry)) (now (out .entry))) ⌝ }
+) -> Answer
+    ensures { λ a. ⌜ (outcome a ≡ reconstructAnswer defaultParameters «message_length» (now (parties .entry)) (length (now (prefixes .entry))) (length (now (out .entry)))) × (now (out .exit) ≡ reconstructOutput defaultParameters «message_length» (now (parties .entry)) (now (prefixes .entry)) (now (out .entry))) ⌝ }
 {
     let counts = limits::DEFAULT_COUNTS;
     reconstruct(

@@ -14,7 +14,7 @@ use Rattle.lists.proofs.Numbers.{other-factor, factors-differ}
 use Rattle.scheme.specs.declared.Scheme.{Scheme}
 use Rattle.scheme.specs.declared.SchemeAnswer.the-variants.{Accepted}
 use Rattle.scheme.specs.Limits.{maxBlock}
-use Rattle.scheme.specs.Outcome.{Outcome, outcome}
+use Rattle.scheme.specs.Outcome.{Outcome, schemeOutcome}
 use Rattle.scheme.specs.BlockLength.{blockLength, Least}
 use Rattle.scheme.specs.Check.{last, partiesRefused, thresholdsRefused, countsRefused, refusal, rowsOfCount, rowsOfBlock, checked}
 use Rattle.scheme.specs.Facts as facts
@@ -98,7 +98,7 @@ accepted n r z ds e =
       fits = exact n r z ds s f m least;
     }
 
-pub accepted-scheme : (s : Scheme) (n r z : ℕ) (ds : List ℕ) → outcome (Accepted s) ≡ checked n r z ds → SchemeIs s n r z ds
+pub accepted-scheme : (s : Scheme) (n r z : ℕ) (ds : List ℕ) → schemeOutcome (Accepted s) ≡ checked n r z ds → SchemeIs s n r z ds
 accepted-scheme s n r z ds e =
     let q : refusal n r z ds ≡ 0 = sym (refused-number n r z ds) ∙ ap (λ (o : Outcome). o .number) (sym e) in
     let v = ap (λ (o : Outcome). o .values) (e ∙ checked-accepted n r z ds q) in

@@ -9,7 +9,7 @@ use native.Mathlib.Omega.{arith}
 use borrow.Author.Tests.{eq-eqb, ne-eqb}
 use Rattle.scheme.specs.declared.SchemeAnswer.{SchemeAnswer}
 use Rattle.scheme.specs.declared.SchemeAnswer.the-variants.{Refused}
-use Rattle.scheme.specs.Outcome.{Outcome, accepted, refused, outcome, when, firstOf, answer}
+use Rattle.scheme.specs.Outcome.{Outcome, accepted, refused, schemeOutcome, when, firstOf, answer}
 use Rattle.scheme.specs.Check.{refusal, checked}
 
 -- ---- the first number that is not 0
@@ -60,11 +60,11 @@ answered-some (suc k) q v vs e = (sym (ap (λ (o : Outcome). o .number) (e ∙ a
 
 -- ---- the scheme's refusals come first. The code takes the number q of the check's answer a where that is no scheme.
 
-pub scheme-refused : (n r z : ℕ) (ds : List ℕ) (a : SchemeAnswer) (k q : ℕ) → outcome a ≡ checked n r z ds → a ≡ Refused k → q ≡ outcome a .number
+pub scheme-refused : (n r z : ℕ) (ds : List ℕ) (a : SchemeAnswer) (k q : ℕ) → schemeOutcome a ≡ checked n r z ds → a ≡ Refused k → q ≡ schemeOutcome a .number
     → (qs vs : List ℕ) → refused q ≡ answer (firstOf (refusal n r z ds ∷ qs)) vs
 unfolding checked
 scheme-refused n r z ds a k q e told is qs vs =
-    let same : q ≡ k = is ∙ ap (λ (x : SchemeAnswer). outcome x .number) told in
-    let out : refused q ≡ outcome a = ap refused same ∙ sym (ap outcome told) in
+    let same : q ≡ k = is ∙ ap (λ (x : SchemeAnswer). schemeOutcome x .number) told in
+    let out : refused q ≡ schemeOutcome a = ap refused same ∙ sym (ap schemeOutcome told) in
     let first = answered-some (refusal n r z ds) q n _ (out ∙ e) in
     rw (first-here (refusal n r z ds) qs (first .1), first .0) (sym (answer-some q vs (rw (first .0) at (first .1))))

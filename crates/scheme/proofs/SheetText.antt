@@ -14,7 +14,7 @@ use Rattle.scheme.specs.declared.Scheme.{Scheme}
 use Rattle.scheme.specs.declared.SchemeAnswer.{SchemeAnswer}
 use Rattle.scheme.specs.declared.SchemeAnswer.the-variants.{Accepted, Refused}
 use Rattle.scheme.specs.Limits.{maxParties, maxBlock, defaultN, defaultR, defaultZ, defaultCounts}
-use Rattle.scheme.specs.Outcome.{Outcome, outcome, when, firstOf}
+use Rattle.scheme.specs.Outcome.{Outcome, schemeOutcome, when, firstOf}
 use Rattle.scheme.specs.BlockLength.{blockLength}
 use Rattle.scheme.specs.Check.{partiesRefused, thresholdsRefused, countsRefused, blockRefused, refusal, rowsOfCount, rowsOfBlock, checked}
 use Rattle.scheme.specs.Sheet.{decimal, line, countLine, countLines, schemeText, sheetText, wordBlock, wordRows, wordRefused, maxInput}
@@ -72,25 +72,25 @@ module _ (n r z : ℕ) (ds : List ℕ) where
   unfolding schemeText
   text-refused e = rw (ne-eqb (refusal n r z ds) 0 e)
 
-  module _ (a : SchemeAnswer) (is : outcome a ≡ checked n r z ds) where
+  module _ (a : SchemeAnswer) (is : schemeOutcome a ≡ checked n r z ds) where
     pub block-most : (s : Scheme) → a ≡ Accepted s → s .block ≤ maxBlock
     block-most s e =
-        let i = accepted-scheme s n r z ds (ap outcome (sym e) ∙ is) in
+        let i = accepted-scheme s n r z ds (ap schemeOutcome (sym e) ∙ is) in
         omega (arith, accepted n r z ds (i .passed) .limit, i .block-is)
 
     pub accepted-text : (s : Scheme) → a ≡ Accepted s
         → schemeText n r z ds ≡ line (wordBlock ∷ decimal (s .block) ∷ wordRows ∷ decimal (s .rows) ∷ []) ++ countLines (s .block) z ds
     accepted-text s e =
-        let i = accepted-scheme s n r z ds (ap outcome (sym e) ∙ is) in
+        let i = accepted-scheme s n r z ds (ap schemeOutcome (sym e) ∙ is) in
         rw (i .block-is, i .rows-is) (text-accepted (i .passed))
 
-    pub refused-text : (q number : ℕ) → a ≡ Refused q → number ≡ outcome a .number
+    pub refused-text : (q number : ℕ) → a ≡ Refused q → number ≡ schemeOutcome a .number
         → schemeText n r z ds ≡ line (wordRefused ∷ decimal number ∷ [])
     refused-text q number e number-is =
         let same : number ≡ refusal n r z ds = number-is ∙ ap (λ (o : Outcome). o .number) is ∙ refused-number n r z ds in
         -- an accepted scheme has values, and a refusal has none
         let no : refusal n r z ds ≡ 0 → ⊥ = λ passed.
-        let values = ap (λ (o : Outcome). length (o .values)) (ap outcome (sym e) ∙ is ∙ checked-accepted n r z ds passed) in
+        let values = ap (λ (o : Outcome). length (o .values)) (ap schemeOutcome (sym e) ∙ is ∙ checked-accepted n r z ds passed) in
         omega arith in
         rw same (text-refused no)
 

@@ -4,8 +4,10 @@ use mathlib.Core.Bool.{Bool, cond}
 use mathlib.Core.List.{List, [], _∷_}
 use Prim.Native.Nat.{ℕ}
 use lib.Dec.{eqb}
+use Rattle.scheme.specs.declared.Answer.{Answer}
+use Rattle.scheme.specs.declared.Answer.the-variants.{Accepted, Refused}
 use Rattle.scheme.specs.declared.SchemeAnswer.{SchemeAnswer}
-use Rattle.scheme.specs.declared.SchemeAnswer.the-variants.{Accepted, Refused}
+use Rattle.scheme.specs.declared.SchemeAnswer.the-variants.{Accepted as SchemeAccepted, Refused as SchemeRefused}
 
 pub record Outcome : Type 0 where
   pub number : ℕ
@@ -17,10 +19,15 @@ accepted vs = record { number = 0; values = vs }
 abbrev pub refused : ℕ → Outcome
 refused q = record { number = q; values = [] }
 
--- the cases of the check's answer: of an accepted scheme n, r, z, the block length m and the rows b
-abbrev pub outcome : SchemeAnswer → Outcome
-outcome (Accepted s) = accepted (s .n ∷ s .r ∷ s .z ∷ s .block ∷ s .rows ∷ [])
+-- the cases of the answer of a call that answers one number
+abbrev pub outcome : Answer → Outcome
+outcome (Accepted number) = accepted (number ∷ [])
 outcome (Refused q) = refused q
+
+-- the cases of the check's answer: of an accepted scheme n, r, z, the block length m and the rows b
+abbrev pub schemeOutcome : SchemeAnswer → Outcome
+schemeOutcome (SchemeAccepted s) = accepted (s .n ∷ s .r ∷ s .z ∷ s .block ∷ s .rows ∷ [])
+schemeOutcome (SchemeRefused q) = refused q
 
 -- ---- the first refusal that applies
 

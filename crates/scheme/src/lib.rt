@@ -4,7 +4,7 @@ ghost use mathlib.Core.Path.{_≡_};
 ghost use Prim.Native.Nat.{ℕ, _+_, _<_, min};
 ghost use lib.ListN.{length, getD};
 ghost use Rattle.scheme.specs.Limits.{maxBlock, defaultN, defaultR, defaultZ, defaultCounts};
-ghost use Rattle.scheme.specs.Outcome.{outcome};
+ghost use Rattle.scheme.specs.Outcome.{schemeOutcome};
 ghost use Rattle.scheme.specs.BlockLength.{blockLength};
 ghost use Rattle.scheme.specs.Check.{checked, countsRefused, rowsOfCount, blockCount};
 use lists::wide;
@@ -35,11 +35,18 @@ pub enum SchemeAnswer {
     Refused(u8),
 }
 
+// The answer of the calls that answer one number: that number, or the number of the first refusal that
+// applies.
+pub enum Answer {
+    Accepted(usize),
+    Refused(u8),
+}
+
 // Checks a scheme. Refusal 1: n is below 2 or above 16. 2: z is 0, or r + z is n or more. 3: the
 // counts are none or over 8, do not fall strictly, start above n or do not end at n - r. 4: the
 // block length is above 840.
 pub fn check(n: u8, r: u8, z: u8, counts: &[u8]) -> SchemeAnswer
-    ensures { λ a. ⌜ outcome a ≡ checked n r z (now (counts .entry)) ⌝ }
+    ensures { λ a. ⌜ schemeOutcome a ≡ checked n r z (now (counts .entry)) ⌝ }
 {
     if n < 2 {
         return SchemeAnswer::Refused(1);
@@ -73,7 +80,7 @@ pub fn check(n: u8, r: u8, z: u8, counts: &[u8]) -> SchemeAnswer
 
 // Checks the default scheme.
 pub fn check_default() -> SchemeAnswer
-    ensures { λ a. ⌜ outcome a ≡ checked defaultN defaultR defaultZ defaultCounts ⌝ }
+    ensures { λ a. ⌜ schemeOutcome a ≡ checked defaultN defaultR defaultZ defaultCounts ⌝ }
 {
     let counts = limits::DEFAULT_COUNTS;
     check(
@@ -86,7 +93,7 @@ pub fn check_default() -> SchemeAnswer
 
 // The number of an answer's refusal, 0 when the scheme is accepted.
 pub fn refusal(answer: SchemeAnswer) -> u8
-    ensures { λ q. ⌜ q ≡ outcome answer .number ⌝ }
+    ensures { λ q. ⌜ q ≡ schemeOutcome answer .number ⌝ }
 {
     match answer {
         SchemeAnswer::Accepted(_) => 0,

@@ -8,18 +8,18 @@ use lib.ListN.{length}
 use Rattle.lists.specs.Each.{Each, Distinct, Byte}
 use Rattle.lists.proofs.Each.{map-each}
 use Rattle.scheme.specs.Limits.{maxMessage}
-use Rattle.scheme.specs.Outcome.{Outcome}
+use Rattle.scheme.specs.Outcome.{Outcome, outcome}
 use Rattle.scheme.specs.Check.{blockCount}
 use Rattle.scheme.proofs.Laws.{default-accepted}
-use Rattle.staircase.specs.Parameters.{Parameters, Party, block}
+use Rattle.staircase.specs.Parameters.{Parameters, Party, defaultParameters, block}
 use Rattle.staircase.specs.Shares.{shares, partOf, KeyString}
 use Rattle.staircase.proofs.Hidden.{message-hidden}
 use Rattle.staircase.proofs.WholeBlocks.{keys-number}
-use Rattle.dealer.specs.declared.SplitAnswer.{SplitAnswer}
-use Rattle.dealer.specs.declared.SplitAnswer.the-variants.{Written, Refused}
-use Rattle.dealer.specs.Split.{splitOutcome, splitRefusal}
+use Rattle.scheme.specs.declared.Answer.{Answer}
+use Rattle.scheme.specs.declared.Answer.the-variants.{Accepted, Refused}
+use Rattle.dealer.specs.Split.{splitRefusal}
 use Rattle.dealer.proofs.Laws.{none-applies, written as written-out}
-use Rattle.sharing.specs.Secrecy.{wanted, Secret, Secrecy, defaultParameters, EndsAlike}
+use Rattle.sharing.specs.Secrecy.{wanted, Secret, Secrecy, EndsAlike}
 
 -- ---- secrecy
 
@@ -57,10 +57,10 @@ default-secrecy = secrecy defaultParameters default-accepted
 -- ---- ending alike
 
 -- an answer is its outcome
-same-answer : (a a′ : SplitAnswer) → splitOutcome a ≡ splitOutcome a′ → a ≡ a′
-same-answer (Written x) (Written y) e = ap Written (cc (ap (λ (o : Outcome). o .values) e))
-same-answer (Written x) (Refused y) e = let z : _≡_ {A = ℕ} 0 1 = ap length (ap (λ (o : Outcome). o .values) (sym e)) in absurd (let x : ⊥ = omega arith in x)
-same-answer (Refused x) (Written y) e = let z : _≡_ {A = ℕ} 0 1 = ap length (ap (λ (o : Outcome). o .values) e) in absurd (let x : ⊥ = omega arith in x)
+same-answer : (a a′ : Answer) → outcome a ≡ outcome a′ → a ≡ a′
+same-answer (Accepted x) (Accepted y) e = ap Accepted (cc (ap (λ (o : Outcome). o .values) e))
+same-answer (Accepted x) (Refused y) e = let z : _≡_ {A = ℕ} 0 1 = ap length (ap (λ (o : Outcome). o .values) (sym e)) in absurd (let x : ⊥ = omega arith in x)
+same-answer (Refused x) (Accepted y) e = let z : _≡_ {A = ℕ} 0 1 = ap length (ap (λ (o : Outcome). o .values) e) in absurd (let x : ⊥ = omega arith in x)
 same-answer (Refused x) (Refused y) e = ap Refused (ap (λ (o : Outcome). o .number) e)
 
 pub outcome-from-lengths : (p : Parameters) → EndsAlike p

@@ -7,12 +7,13 @@ use Prim.Native.Nat.{ℕ, _*_, _≤_}
 use lib.Dec.{eqb}
 use lib.ListN.{length}
 use Rattle.lists.specs.Each.{Each, Distinct, Byte}
-use Rattle.scheme.specs.Limits.{maxMessage, defaultN, defaultR, defaultZ, defaultCounts}
+use Rattle.scheme.specs.Limits.{maxMessage}
+use Rattle.scheme.specs.declared.Answer.{Answer}
+use Rattle.scheme.specs.Outcome.{outcome}
 use Rattle.scheme.specs.Check.{blockCount}
-use Rattle.staircase.specs.Parameters.{Parameters, Accepted, Party, parameters, block, rows}
+use Rattle.staircase.specs.Parameters.{Parameters, Accepted, Party, block, rows}
 use Rattle.staircase.specs.Shares.{partOf, KeyString}
-use Rattle.dealer.specs.declared.SplitAnswer.{SplitAnswer}
-use Rattle.dealer.specs.Split.{splitOutcome, splitRefusal, splitAnswer, splitOutput}
+use Rattle.dealer.specs.Split.{splitRefusal, splitAnswer, splitOutput}
 
 -- the output's length that the splitter wants for a message of so many bytes
 abbrev pub wanted : Parameters → ℕ → ℕ
@@ -46,13 +47,9 @@ Secrecy p =
     → (parties : List ℕ) → Each (Party p) parties → Distinct parties → length parties ≤ p .z
     → Secret p first second parties
 
--- the scheme of the form without one
-abbrev pub defaultParameters : Parameters
-defaultParameters = parameters defaultN defaultR defaultZ defaultCounts
-
 -- a call of the splitter: what its contract says of its answer and of its output before and after
-pub record Call (p : Parameters) (message keys before : List ℕ) (answer : SplitAnswer) (after : List ℕ) : Type 0 where
-  pub answered : splitOutcome answer ≡ splitAnswer p (length message) (length keys) (length before)
+pub record Call (p : Parameters) (message keys before : List ℕ) (answer : Answer) (after : List ℕ) : Type 0 where
+  pub answered : outcome answer ≡ splitAnswer p (length message) (length keys) (length before)
   pub wrote : after ≡ splitOutput p message keys before
 
 -- the bytes that a call writes: its whole output, or none where it is refused
@@ -62,7 +59,7 @@ written p message keys out = cond (eqb (splitRefusal p message keys out) 0) out 
 -- two calls with one scheme, accepted or not, and equal lengths end alike, whatever the slices hold
 abbrev pub EndsAlike : Parameters → Type 0
 EndsAlike p =
-    (message message′ keys keys′ before before′ after after′ : List ℕ) (answer answer′ : SplitAnswer)
+    (message message′ keys keys′ before before′ after after′ : List ℕ) (answer answer′ : Answer)
     → Call p message keys before answer after → Call p message′ keys′ before′ answer′ after′
     → length message ≡ length message′ → length keys ≡ length keys′ → length before ≡ length before′
     → (answer ≡ answer′)

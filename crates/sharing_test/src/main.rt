@@ -3,9 +3,7 @@
 ghost use mathlib.Core.Path.{_≡_};
 ghost use lib.ListN.{length};
 use libc::STDOUT_FILENO;
-use sharing::PrefixAnswer;
-use sharing::ReconstructAnswer;
-use sharing::SplitAnswer;
+use sharing::Answer;
 
 fn main() {
     two_blocks();
@@ -160,10 +158,8 @@ fn show_opened(
     prefixes: &[u8],
     out: &mut [u8],
 ) {
-    match sharing::reconstruct(n, r, z, counts, out.len(), parties, prefixes, out) {
-        ReconstructAnswer::Used(bytes) => print(b"used ", bytes as u64),
-        ReconstructAnswer::Refused(number) => print(b"refused ", number as u64),
-    }
+    let used = sharing::reconstruct(n, r, z, counts, out.len(), parties, prefixes, out);
+    print_answer(b"used ", used);
     print_bytes(out);
 }
 
@@ -222,10 +218,8 @@ fn pattern(first: usize) -> [u8; 512]
 
 // Splits, and prints the answer and what the output then holds.
 fn show(n: u8, r: u8, z: u8, counts: &[u8], message: &[u8], keys: &[u8], out: &mut [u8]) {
-    match sharing::split(n, r, z, counts, message, keys, out) {
-        SplitAnswer::Written(bytes) => print(b"written ", bytes as u64),
-        SplitAnswer::Refused(number) => print(b"refused ", number as u64),
-    }
+    let written = sharing::split(n, r, z, counts, message, keys, out);
+    print_answer(b"written ", written);
     print_bytes(out);
 }
 
@@ -239,14 +233,22 @@ fn print_bytes(bytes: &[u8]) {
 }
 
 fn show_prefix(message: usize, d: usize, share: &[u8]) {
-    match sharing::prefix_length_default(message, d, share) {
-        PrefixAnswer::Length(bytes) => print(b"prefix ", bytes as u64),
-        PrefixAnswer::Refused(number) => print(b"refused ", number as u64),
-    }
+    print_answer(
+        b"prefix ",
+        sharing::prefix_length_default(message, d, share),
+    );
     let part = sharing::prefix_default(message, d, share);
     print(b" of ", share.len() as u64);
     print(b", handed ", part.len() as u64);
     io::write_all(STDOUT_FILENO, b"\n");
+}
+
+// An answer, with a word for what it is when the call is accepted.
+fn print_answer(word: &[u8], answer: Answer) {
+    match answer {
+        Answer::Accepted(value) => print(word, value as u64),
+        Answer::Refused(number) => print(b"refused ", number as u64),
+    }
 }
 
 fn print(word: &[u8], number: u64) {

@@ -3,6 +3,7 @@
 use mathlib.Core.Path.{_≡_}
 use mathlib.Core.List.{List}
 use Prim.Native.Nat.{ℕ, _≤_}
+use Rattle.scheme.specs.Limits.{defaultN, defaultR, defaultZ, defaultCounts}
 use Rattle.scheme.specs.BlockLength.{blockLength}
 use Rattle.scheme.specs.Check.{refusal, rowsOfBlock}
 
@@ -34,3 +35,7 @@ point p s = s
 
 abbrev pub parameters : ℕ → ℕ → ℕ → List ℕ → Parameters
 parameters n r z counts = record { n = n; r = r; z = z; counts = counts }
+
+-- those of the default scheme, for the calls without one
+abbrev pub defaultParameters : Parameters
+defaultParameters = parameters defaultN defaultR defaultZ defaultCounts

@@ -3,7 +3,7 @@
 -- Assumes nothing.
 use mathlib.Core.Path.{sym, ap, _∙_}
 use native.Mathlib.Omega.{arith}
-use Rattle.scheme.specs.Outcome.{outcome}
+use Rattle.scheme.specs.Outcome.{schemeOutcome}
 use Rattle.scheme.specs.Facts.{SchemeIs}
 use Rattle.scheme.proofs.Laws.{accepted-scheme, scheme-own}
 use Rattle.staircase.proofs.Sizes.{blocks-few, share-small}
@@ -16,7 +16,7 @@ use Rattle.dealer.proofs.split.Tie as tie
 scheme-of : (c : tie.After-known-told)
     → let a = c .before .before .before .before .before .before .before .before .args in
     SchemeIs (c .before .answer .given .0 .0) (a .n) (a .r) (a .z) (a .counts .now)
-scheme-of c = accepted-scheme _ _ _ _ _ (sym (ap outcome (c .before .answer .given .1)) ∙ c .before .before .before .check .ensures)
+scheme-of c = accepted-scheme _ _ _ _ _ (sym (ap schemeOutcome (c .before .answer .given .1)) ∙ c .before .before .before .check .ensures)
 
 pub split-spec : {M : Type 1} → statement M
 split-spec =

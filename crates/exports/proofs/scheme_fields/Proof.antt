@@ -2,7 +2,7 @@
 -- Assumes nothing.
 use mathlib.Core.Path.{sym, ap}
 use borrow.Author.Needs.{needs}
-use Rattle.scheme.specs.Outcome.{outcome}
+use Rattle.scheme.specs.Outcome.{schemeOutcome}
 use Rattle.exports.specs.Fields.{checkedFields}
 use Rattle.exports.proofs.scheme_fields.Statement.{statement}
 use Rattle.exports.proofs.scheme_fields.Tie as tie
@@ -14,5 +14,5 @@ scheme-fields-spec =
     (λ c. search needs)
     (λ c. search needs)
     (λ c. search needs)
-    (λ c. sym (ap (λ answer. checkedFields (outcome answer)) (c .before .answer .given .1)))
-    (λ c. sym (ap (λ answer. checkedFields (outcome answer)) (c .before .answer2 .given .1))))
+    (λ c. sym (ap (λ answer. checkedFields (schemeOutcome answer)) (c .before .answer .given .1)))
+    (λ c. sym (ap (λ answer. checkedFields (schemeOutcome answer)) (c .before .answer2 .given .1))))

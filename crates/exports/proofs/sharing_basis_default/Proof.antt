@@ -1,6 +1,7 @@
 -- `exports::sharing_basis_default` meets its contract: the number of the first refusal, and the table row after row.
 -- Assumes nothing.
 use mathlib.Core.Path.{ap, _∙_}
+use lib.ListN.{getD}
 use borrow.Author.Needs.{needs}
 use Rattle.scheme.specs.Outcome.{Outcome}
 use Rattle.reader.proofs.Laws.{basis-number}
@@ -13,6 +14,6 @@ sharing-basis-default-spec =
     tie.close
     (tie.spec (λ c κs. search needs) (λ c κs. search needs) (λ c κs. search needs) (λ c κs. search needs)
     (λ c. (
-      c .before .before .basis-number .ensures ∙ ap (λ (o : Outcome). o .number) (c .before .before .before .basis-size-default .ensures) ∙ basis-number _ _,
+      ap (λ fs. getD fs 0 0) (c .before .before .fields .ensures) ∙ ap (λ (o : Outcome). o .number) (c .before .before .before .basis-size-default .ensures) ∙ basis-number _ _,
       c .in-one-row .ensures ∙ ap flattened (c .before .basis-default .ensures),
     )))

@@ -9,4 +9,4 @@ use Rattle.exports.proofs.sharing_prefix_default.Tie as tie
 pub sharing-prefix-default-spec : {M : Type 1} → statement M
 sharing-prefix-default-spec =
     tie.close
-    (tie.spec (λ c κs. search needs) (λ c κs. search needs) (λ c. c .prefix-fields .ensures ∙ ap valueFields (c .before .prefix-length-default .ensures)))
+    (tie.spec (λ c κs. search needs) (λ c κs. search needs) (λ c. c .fields .ensures ∙ ap valueFields (c .before .prefix-length-default .ensures)))

@@ -9,4 +9,4 @@ use Rattle.exports.proofs.sharing_reconstruct.Tie as tie
 pub sharing-reconstruct-spec : {M : Type 1} → statement M
 sharing-reconstruct-spec =
     tie.close
-    (tie.spec (λ c κs. search needs) (λ c κs. search needs) (λ c. search needs) (λ c. (c .reconstruct-fields .ensures ∙ ap valueFields (c .before .before .before .reconstruct .ensures .0), c .before .before .before .reconstruct .ensures .1)))
+    (tie.spec (λ c κs. search needs) (λ c κs. search needs) (λ c. search needs) (λ c. (c .fields .ensures ∙ ap valueFields (c .before .before .before .reconstruct .ensures .0), c .before .before .before .reconstruct .ensures .1)))

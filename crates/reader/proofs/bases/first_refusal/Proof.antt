@@ -3,7 +3,7 @@
 use mathlib.Core.Path.{sym, ap, _∙_}
 use borrow.Author.Needs.{needs}
 use borrow.Author.Tests.{not-true, not-false}
-use Rattle.scheme.specs.Outcome.{outcome}
+use Rattle.scheme.specs.Outcome.{schemeOutcome}
 use Rattle.scheme.specs.Facts.{SchemeIs}
 use Rattle.scheme.proofs.Laws.{accepted-scheme}
 use Rattle.reader.proofs.BasisAnswers.{scheme-refuses, no-count, not-rising, none-applies}
@@ -14,7 +14,7 @@ use Rattle.reader.proofs.bases.first_refusal.Tie as tie
 scheme-of : (c : tie.After-known-told)
     → let a = c .before .before .before .before .before .before .args in
     SchemeIs (c .before .answer .given .0 .0) (a .n) (a .r) (a .z) (a .counts .now)
-scheme-of c = accepted-scheme _ _ _ _ _ (sym (ap outcome (c .before .answer .given .1)) ∙ c .before .before .before .check .ensures)
+scheme-of c = accepted-scheme _ _ _ _ _ (sym (ap schemeOutcome (c .before .answer .given .1)) ∙ c .before .before .before .check .ensures)
 
 pub first-refusal-spec : {M : Type 1} → statement M
 first-refusal-spec =

@@ -8,7 +8,7 @@ use lib.ListN.{length}
 use borrow.Author.Needs.{needs}
 use borrow.Author.Tests.{not-true, not-false}
 use Rattle.lists.specs.Each.{occurs}
-use Rattle.scheme.specs.Outcome.{outcome}
+use Rattle.scheme.specs.Outcome.{schemeOutcome}
 use Rattle.scheme.specs.Facts.{SchemeIs}
 use Rattle.scheme.proofs.Laws.{accepted-scheme, scheme-own}
 use Rattle.scheme.specs.Readers.{readersRefused}
@@ -21,7 +21,7 @@ use Rattle.reader.proofs.opening.reconstruct.Tie as tie
 scheme-of : (c : tie.After-known-told)
     → let a = c .before .before .before .before .before .before .before .before .args in
     SchemeIs (c .before .answer .given .0 .0) (a .n) (a .r) (a .z) (a .counts .now)
-scheme-of c = accepted-scheme _ _ _ _ _ (sym (ap outcome (c .before .answer .given .1)) ∙ c .before .before .before .check .ensures)
+scheme-of c = accepted-scheme _ _ _ _ _ (sym (ap schemeOutcome (c .before .answer .given .1)) ∙ c .before .before .before .check .ensures)
 
 -- past refusal 6
 count-of : (c : tie.Else2)
