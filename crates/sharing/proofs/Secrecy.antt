@@ -1,7 +1,7 @@
 -- Demand 3: the splitter gives nothing away to at most z parties, and how a call ends depends on the scheme and the lengths alone.
 -- Assumes nothing.
-use mathlib.Core.Path.{_≡_, sym, ap, _∙_}
-use mathlib.Core.List.{List}
+use mathlib.Core.Path.{_≡_, refl, sym, ap, _∙_}
+use mathlib.Core.List.{List, []}
 use Prim.Native.Nat.{ℕ, _≤_}
 use native.Mathlib.Omega.{arith}
 use lib.ListN.{length}
@@ -10,16 +10,16 @@ use Rattle.lists.proofs.Each.{map-each}
 use Rattle.scheme.specs.Limits.{maxMessage}
 use Rattle.scheme.specs.Outcome.{Outcome, outcome}
 use Rattle.scheme.specs.Check.{blockCount}
-use Rattle.scheme.proofs.Laws.{default-accepted}
+use Rattle.scheme.proofs.Laws.{default-accepted, answered-none, answered-some}
 use Rattle.staircase.specs.Parameters.{Parameters, Party, defaultParameters, block}
 use Rattle.staircase.specs.Shares.{shares, partOf, KeyString}
 use Rattle.staircase.proofs.Hidden.{message-hidden}
 use Rattle.staircase.proofs.WholeBlocks.{keys-number}
 use Rattle.scheme.specs.declared.Answer.{Answer}
-use Rattle.scheme.specs.declared.Answer.the-variants.{Accepted, Refused}
-use Rattle.dealer.specs.Split.{splitRefusal}
-use Rattle.dealer.proofs.Laws.{none-applies, written as written-out}
-use Rattle.sharing.specs.Secrecy.{wanted, Secret, Secrecy, EndsAlike}
+use Rattle.scheme.specs.declared.Answer.the-variants.{Accepted as Answered, Refused}
+use Rattle.dealer.specs.Split.{splitRefusal, splitAnswer}
+use Rattle.dealer.proofs.Laws.{none-applies, written as written-out, unwritten, output-long}
+use Rattle.sharing.specs.Secrecy.{wanted, Secret, Secrecy, Call, written, Wrote, OutcomeFromLengths}
 
 -- ---- secrecy
 
@@ -54,15 +54,42 @@ pub default-secrecy : (first second : List ℕ) → Each Byte first → Each Byt
     → Secret defaultParameters first second parties
 default-secrecy = secrecy defaultParameters default-accepted
 
--- ---- ending alike
+-- ---- how a call ends
 
 -- an answer is its outcome
 same-answer : (a a′ : Answer) → outcome a ≡ outcome a′ → a ≡ a′
-same-answer (Accepted x) (Accepted y) e = ap Accepted (cc (ap (λ (o : Outcome). o .values) e))
-same-answer (Accepted x) (Refused y) e = let z : _≡_ {A = ℕ} 0 1 = ap length (ap (λ (o : Outcome). o .values) (sym e)) in absurd (let x : ⊥ = omega arith in x)
-same-answer (Refused x) (Accepted y) e = let z : _≡_ {A = ℕ} 0 1 = ap length (ap (λ (o : Outcome). o .values) e) in absurd (let x : ⊥ = omega arith in x)
+same-answer (Answered x) (Answered y) e = ap Answered (cc (ap (λ (o : Outcome). o .values) e))
+same-answer (Answered x) (Refused y) e = let z : _≡_ {A = ℕ} 0 1 = ap length (ap (λ (o : Outcome). o .values) (sym e)) in absurd (let x : ⊥ = omega arith in x)
+same-answer (Refused x) (Answered y) e = let z : _≡_ {A = ℕ} 0 1 = ap length (ap (λ (o : Outcome). o .values) e) in absurd (let x : ⊥ = omega arith in x)
 same-answer (Refused x) (Refused y) e = ap Refused (ap (λ (o : Outcome). o .number) e)
 
-pub outcome-from-lengths : (p : Parameters) → EndsAlike p
+-- what a call wrote
+pub call-wrote : (p : Parameters) (message keys before : List ℕ) (answer : Answer) (after : List ℕ) → Call p message keys before answer after
+    → Wrote p message keys before answer after
+unfolding splitAnswer
+call-wrote p message keys before (Answered bytes) after C =
+    let none = answered-none _ _ _ (C .answered) .0 in
+    (C .wrote ∙ written-out p message keys before none, ap length (C .wrote) ∙ output-long p message keys before)
+call-wrote p message keys before (Refused number) after C =
+    C .wrote ∙ sym (unwritten p message keys before (answered-some _ number _ [] (C .answered) .1))
+
+-- so a call that gave this answer wrote as many bytes as the lengths say
+written-long : (p : Parameters) (message keys before : List ℕ) (answer : Answer) (after : List ℕ) → Wrote p message keys before answer after
+    → written answer after ≡ written answer before
+written-long p message keys before (Answered bytes) after W = W .1
+written-long p message keys before (Refused number) after W = refl
+
+same-room : (answer : Answer) (before before′ : List ℕ) → length before ≡ length before′ → written answer before ≡ written answer before′
+same-room (Answered bytes) before before′ e = e
+same-room (Refused number) before before′ e = refl
+
+pub outcome-from-lengths : (p : Parameters) → OutcomeFromLengths p
 outcome-from-lengths p message message′ keys keys′ before before′ after after′ answer answer′ C C′ m k b =
-    (same-answer answer answer′ (C .answered ∙ rw (m, k, b) (sym (C′ .answered))), rw (m, k, b))
+    let same : answer ≡ answer′ = same-answer answer answer′ (C .answered ∙ rw (m, k, b) (sym (C′ .answered))) in
+    let long = written-long p message keys before answer after (call-wrote p message keys before answer after C) in
+    let long′ = written-long p message′ keys′ before′ answer′ after′ (call-wrote p message′ keys′ before′ answer′ after′ C′) in
+    (same, long ∙ ap (λ a. written a before) same ∙ same-room answer′ before before′ b ∙ sym long′)
+
+-- the form without a scheme
+pub default-outcome-from-lengths : OutcomeFromLengths defaultParameters
+default-outcome-from-lengths = outcome-from-lengths defaultParameters

@@ -1,18 +1,17 @@
 -- Demand 3 of the request, as statements about the splitter's own answer and output.
 -- Assumes nothing.
 use mathlib.Core.Path.{_≡_}
-use mathlib.Core.Bool.{cond}
 use mathlib.Core.List.{List}
 use Prim.Native.Nat.{ℕ, _*_, _≤_}
-use lib.Dec.{eqb}
 use lib.ListN.{length}
 use Rattle.lists.specs.Each.{Each, Distinct, Byte}
 use Rattle.scheme.specs.Limits.{maxMessage}
 use Rattle.scheme.specs.declared.Answer.{Answer}
+use Rattle.scheme.specs.declared.Answer.the-variants.{Accepted as Answered, Refused}
 use Rattle.scheme.specs.Outcome.{outcome}
 use Rattle.scheme.specs.Check.{blockCount}
 use Rattle.staircase.specs.Parameters.{Parameters, Accepted, Party, block, rows}
-use Rattle.staircase.specs.Shares.{partOf, KeyString}
+use Rattle.staircase.specs.Shares.{shares, partOf, KeyString}
 use Rattle.dealer.specs.Split.{splitRefusal, splitAnswer, splitOutput}
 
 -- the output's length that the splitter wants for a message of so many bytes
@@ -52,15 +51,20 @@ pub record Call (p : Parameters) (message keys before : List ℕ) (answer : Answ
   pub answered : outcome answer ≡ splitAnswer p (length message) (length keys) (length before)
   pub wrote : after ≡ splitOutput p message keys before
 
--- the bytes that a call writes: its whole output, or none where it is refused
-unfoldable pub written : Parameters → ℕ → ℕ → ℕ → ℕ
-written p message keys out = cond (eqb (splitRefusal p message keys out) 0) out 0
+-- the bytes that it wrote, by its answer and its output after it: the whole output where it was accepted, none where it was refused
+abbrev pub written : Answer → List ℕ → ℕ
+written (Answered bytes) after = length after
+written (Refused number) after = 0
 
--- two calls with one scheme, accepted or not, and equal lengths end alike, whatever the slices hold
-abbrev pub EndsAlike : Parameters → Type 0
-EndsAlike p =
+-- that these are the bytes it wrote: all shares, as long as the output was, or the output is what it was
+abbrev pub Wrote : Parameters → List ℕ → List ℕ → List ℕ → Answer → List ℕ → Type 0
+Wrote p message keys before (Answered bytes) after = (after ≡ shares p message keys) × (length after ≡ length before)
+Wrote p message keys before (Refused number) after = after ≡ before
+
+-- two calls with one scheme, accepted or not, and equal lengths, whatever the slices hold: the same answer, and equally many bytes written
+abbrev pub OutcomeFromLengths : Parameters → Type 0
+OutcomeFromLengths p =
     (message message′ keys keys′ before before′ after after′ : List ℕ) (answer answer′ : Answer)
     → Call p message keys before answer after → Call p message′ keys′ before′ answer′ after′
     → length message ≡ length message′ → length keys ≡ length keys′ → length before ≡ length before′
-    → (answer ≡ answer′)
-    × (written p (length message) (length keys) (length before) ≡ written p (length message′) (length keys′) (length before′))
+    → (answer ≡ answer′) × (written answer after ≡ written answer′ after′)
