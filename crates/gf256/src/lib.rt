@@ -1,6 +1,5 @@
 // Byte arithmetic, FIPS 197 section 4. Each function is held to a definition of specs/Byte.antt.
 ghost use mathlib.Core.Path.{_≡_};
-ghost use mathlib.Core.Bool.{true};
 ghost use Prim.Native.Nat.{_<_};
 ghost use Rattle.gf256.specs.Byte as byte;
 ghost use Rattle.gf256.specs.Byte.{_⊕_, _⊗_, power};
@@ -43,13 +42,6 @@ pub fn mul_by_shifting(a: u8, b: u8) -> u8
         left = left / 2;
     }
     sum
-}
-
-// The two products agree on every pair.
-pub fn products_agree(a: u8, b: u8) -> bool
-    ensures { λ r. ⌜ r ≡ true ⌝ }
-{
-    mul(a, b) == mul_by_shifting(a, b)
 }
 
 // The inverse of a byte; that of 0 is 0.
