@@ -1,10 +1,11 @@
 -- The structs that the C boundary answers, field by field: the refusal's number, 0 when accepted, then the values, 0 on a refusal.
 -- Assumes nothing.
 use mathlib.Core.List.{List, [], _∷_}
-use Prim.Native.Nat.{ℕ, _/_, _%_}
+use Prim.Native.Nat.{ℕ, _*_, _/_, _%_}
 use lib.ListN.{getD}
 use Rattle.scheme.specs.Outcome.{Outcome}
 use Rattle.lists.specs.Table.{tabulate}
+use Rattle.interpolation.specs.Interpolation.{side}
 use Rattle.exports.specs.declared.SharingScheme.{SharingScheme}
 use Rattle.exports.specs.declared.SharingAnswer.{SharingAnswer}
 
@@ -24,4 +25,4 @@ valueFields o = o .number ∷ getD (o .values) 0 0 ∷ []
 
 -- a table of 16 rows of 16 bytes, row after row
 unfoldable pub flattened : List (List ℕ) → List ℕ
-flattened table = tabulate 256 (λ k. getD (getD table (k / 16) []) (k % 16) 0)
+flattened table = tabulate (side * side) (λ k. getD (getD table (k / side) []) (k % side) 0)

@@ -12,6 +12,7 @@ ghost use Rattle.party.specs.Prefix.{prefixAnswer};
 ghost use Rattle.reader.specs.Basis.{basisRefusal, basisOf};
 ghost use Rattle.reader.specs.Reconstruct.{reconstructAnswer, reconstructOutput};
 ghost use Rattle.exports.specs.Fields.{flattened, schemeFields, checkedFields, answerFields, valueFields};
+use interpolation::SIDE;
 use scheme::SchemeAnswer;
 use sharing::Answer;
 
@@ -32,8 +33,10 @@ pub struct SharingAnswer {
 #[repr(C)]
 pub struct SharingBasis {
     pub refusal: u64,
-    pub weights: [u8; 256],
+    pub weights: [u8; WEIGHTS],
 }
+
+const WEIGHTS: usize = SIDE * SIDE;
 
 #[no_mangle]
 pub extern "C" fn gf256_mul(a: u8, b: u8) -> u8
@@ -179,14 +182,14 @@ pub extern "C" fn sharing_basis_default(parties: &[u8]) -> SharingBasis
     }
 }
 
-fn in_one_row(table: [[u8; 16]; 16]) -> [u8; 256]
+fn in_one_row(table: [[u8; SIDE]; SIDE]) -> [u8; WEIGHTS]
     ensures { λ weights. ⌜ weights ≡ flattened table ⌝ }
 {
-    let mut weights = [0u8; 256];
+    let mut weights = [0u8; WEIGHTS];
     let mut k = 0;
-    while k < 256 {
-        let row = table[k / 16];
-        weights[k] = row[k % 16];
+    while k < WEIGHTS {
+        let row = table[k / SIDE];
+        weights[k] = row[k % SIDE];
         k += 1;
     }
     weights

@@ -1,4 +1,4 @@
--- Exclusive or, by binary digits: the laws that `lib.Bits` lacks, and the recursion `through` at one digit more.
+-- Exclusive or, by binary digits: the laws that `lib.Bits` lacks, and the recursion `foldDigits` at one digit more.
 -- Assumes nothing.
 use mathlib.Core.Path.{_≡_, refl, sym, ap, ap₂, _∙_}
 use Prim.Native.Nat.{ℕ, zero, suc, _+_, _*_, _/_, _%_, _≤_, _<_}
@@ -7,7 +7,7 @@ use native.Mathlib.Nat as N
 use native.Mathlib.Decide.{le-ind}
 use lib.Arith.{half-le, bin-ind}
 use lib.Bits.{differ, xor-step, xor-shr, xor-mod, xor-block, xor-comm}
-use Rattle.gf256.specs.Byte.{_⊕_, through}
+use Rattle.gf256.specs.Byte.{_⊕_, foldDigits}
 
 pub below-two : (P : ℕ → Type 0) → P 0 → P 1 → (d : ℕ) → d < 2 → P d
 below-two P p q zero h = p
@@ -69,15 +69,15 @@ times-digit a b =
 
 -- the recursion through the digits, at one digit more
 module _ (step : ℕ → ℕ → ℕ) (hz : step 0 0 ≡ 0) where
-  more : (k n : ℕ) → n ≤ k → through step (suc k) n ≡ through step k n
+  more : (k n : ℕ) → n ≤ k → foldDigits step (suc k) n ≡ foldDigits step k n
   more zero zero h = refl
   more zero (suc n) h = absurd (not-suc-le-zero h)
   more (suc k) zero h = refl
   more (suc k) (suc n) h = ap (λ x. step x (suc n % 2)) (more k (suc n / 2) (half-le h))
 
-  enough : (k n : ℕ) → n ≤ k → through step k n ≡ through step n n
-  enough k n h = le-ind (λ m. through step m n ≡ through step n n) refl (λ m l e. more m n l ∙ e) k h
+  enough : (k n : ℕ) → n ≤ k → foldDigits step k n ≡ foldDigits step n n
+  enough k n h = le-ind (λ m. foldDigits step m n ≡ foldDigits step n n) refl (λ m l e. more m n l ∙ e) k h
 
-  pub through-step : (n : ℕ) → through step n n ≡ step (through step (n / 2) (n / 2)) (n % 2)
-  through-step zero = sym hz
-  through-step (suc n) = ap (λ x. step x (suc n % 2)) (enough n (suc n / 2) (half-le (le-refl (suc n))))
+  pub fold-digits-step : (n : ℕ) → foldDigits step n n ≡ step (foldDigits step (n / 2) (n / 2)) (n % 2)
+  fold-digits-step zero = sym hz
+  fold-digits-step (suc n) = ap (λ x. step x (suc n % 2)) (enough n (suc n / 2) (half-le (le-refl (suc n))))

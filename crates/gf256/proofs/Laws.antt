@@ -2,7 +2,7 @@
 -- Assumes nothing.
 use Rattle.gf256.specs.Field.{Field}
 pub use Rattle.gf256.proofs.Digits.{⊕-assoc, ⊕-left-comm, interchange}
-pub use Rattle.gf256.proofs.Ring.{⊕-comm, zero-⊕, ⊕-zero, ⊕-self, ⊕-twice, ⊕-back, ⊕-equal, ⊕-cancel, ⊕-byte, ⊗-byte, ⊗-assoc, ⊗-comm, ⊗-left-comm, ⊗-⊕, ⊕-⊗, ⊗-zero, zero-⊗, ⊗-one, one-⊗, ⊗-by-digit}
+pub use Rattle.gf256.proofs.Ring.{⊕-comm, zero-⊕, ⊕-zero, ⊕-self, ⊕-twice, ⊕-back, ⊕-equal, ⊕-byte, ⊗-byte, ⊗-assoc, ⊗-comm, ⊗-left-comm, ⊗-⊕, ⊕-⊗, ⊗-zero, zero-⊗, ⊗-one, one-⊗, ⊗-by-digit}
 pub use Rattle.gf256.proofs.Inverses.{inverse-byte, inverse-zero, ⊗-inverse, ⊗-cancel, inverse-unique, no-zero-divisors}
 pub use Rattle.gf256.proofs.Powers.{power-byte, power-add}
 

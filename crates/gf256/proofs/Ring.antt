@@ -9,7 +9,7 @@ use lib.Bits.{xor-shr, xor-comm, xor-self, xor-zero-r, xor-lt, xor-shifted}
 use lib.Dec.{ltb, eqb, ltb→lt, eqb→eq, lit<}
 use Rattle.gf256.specs.Byte.{_⊕_, modulus, product, cut, reduce, _⊗_}
 use Rattle.lists.proofs.Computed.{holds}
-use Rattle.gf256.proofs.Digits.{⊕-assoc, below-two, odd-lt, half-⊕, odd-⊕, ⊕-beside, ⊕-doubled, times-digit, interchange, through-step}
+use Rattle.gf256.proofs.Digits.{⊕-assoc, below-two, odd-lt, half-⊕, odd-⊕, ⊕-beside, ⊕-doubled, times-digit, interchange, fold-digits-step}
 
 -- ---- the sum
 
@@ -41,9 +41,6 @@ pub ⊕-back : (a b : ℕ) → (a ⊕ b) ⊕ b ≡ a
 pub ⊕-equal : (a b : ℕ) → a ⊕ b ≡ 0 → a ≡ b
 ⊕-equal a b e = sym (⊕-zero a) ∙ ap (_⊕_ a) (sym e) ∙ ⊕-twice a b
 
-pub ⊕-cancel : (a b c : ℕ) → a ⊕ b ≡ a ⊕ c → b ≡ c
-⊕-cancel a b c e = sym (⊕-twice a b) ∙ ap (_⊕_ a) e ∙ ⊕-twice a c
-
 pub ⊕-byte : (a b : ℕ) → a < 256 → b < 256 → a ⊕ b < 256
 unfolding _⊕_
 ⊕-byte = xor-lt 8
@@ -52,7 +49,7 @@ unfolding _⊕_
 
 pub product-step : (a b : ℕ) → product a b ≡ product a (b / 2) * 2 ⊕ a * (b % 2)
 unfolding product _⊕_
-product-step a b = through-step (λ r d. r * 2 ⊕ a * d) (N.mul-zero a) b
+product-step a b = fold-digits-step (λ r d. r * 2 ⊕ a * d) (N.mul-zero a) b
 
 product-zero : (a : ℕ) → product a 0 ≡ 0
 unfolding product
@@ -128,7 +125,7 @@ product-assoc a b =
 
 pub reduce-step : (p : ℕ) → reduce p ≡ cut (reduce (p / 2) * 2 + p % 2)
 unfolding reduce _⊕_ cut
-reduce-step p = through-step (λ r d. cut (r * 2 + d)) refl p
+reduce-step p = fold-digits-step (λ r d. cut (r * 2 + d)) refl p
 
 reduce-zero : reduce 0 ≡ 0
 unfolding reduce

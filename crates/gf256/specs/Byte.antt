@@ -17,14 +17,14 @@ abbrev pub modulus : ℕ
 modulus = 0x11b
 
 -- through the binary digits of n, the highest first: `step` takes what is made so far, from 0, and the next digit. k bounds the number of digits
-abbrev pub through : (ℕ → ℕ → ℕ) → ℕ → ℕ → ℕ
-through step zero n = 0
-through step (suc k) zero = 0
-through step (suc k) (suc n) = step (through step k (suc n / 2)) (suc n % 2)
+abbrev pub foldDigits : (ℕ → ℕ → ℕ) → ℕ → ℕ → ℕ
+foldDigits step zero n = 0
+foldDigits step (suc k) zero = 0
+foldDigits step (suc k) (suc n) = step (foldDigits step k (suc n / 2)) (suc n % 2)
 
 -- the product of two polynomials: for each digit of b, what is made so far times x, and a besides where the digit is 1
 unfoldable pub product : ℕ → ℕ → ℕ
-product a b = through (λ made digit. made * 2 ⊕ a * digit) b b
+product a b = foldDigits (λ made digit. made * 2 ⊕ a * digit) b b
 
 -- a number below 512, less the modulus where it is 256 or more
 unfoldable pub cut : ℕ → ℕ
@@ -32,7 +32,7 @@ cut n = n ⊕ n / 256 * modulus
 
 -- the remainder by the modulus, by long division
 unfoldable pub reduce : ℕ → ℕ
-reduce p = through (λ made digit. cut (made * 2 + digit)) p p
+reduce p = foldDigits (λ made digit. cut (made * 2 + digit)) p p
 
 -- 4.2: the product of two bytes
 unfoldable pub _⊗_ : ℕ → ℕ → ℕ

@@ -7,6 +7,7 @@ use Prim.Native.Nat.{ℕ, zero, suc, _+_, _*_, _/_, _%_, _≤_, _<_, zero-le}
 use native.Mathlib.Nat.{add-zero, add-mul, zero-mul, suc-mul, mul-zero, le-refl, le-step, le-of-eq, lt-of-le-of-lt, eq-or-lt-of-le, le-of-suc-le-suc, not-suc-le-zero, mul-le-mul-right, eq-zero-or-pos}
 use native.Mathlib.Nat.{mul-add-div-right, div-eq-of-lt, mul-add-mod-self-right, mod-eq-of-lt, div-lt-iff-lt-mul, mod-lt, div-add-mod'}
 use native.Mathlib.Omega.{arith}
+use lib.Arith.{digits-lt, digits-div, digits-mod}
 use lib.ListN.{length, getD, drop, length-append, length-drop, List·getD-append}
 use lib.Seq.{getD-append-add, drop-at, take-all, drop-append-le, take-append-le}
 use Rattle.lists.specs.Table.{tabulate, joined, piece}
@@ -18,7 +19,7 @@ pub row-room : (i n m : ℕ) → i < n → i * m + m ≤ n * m
 row-room i n m h = rw suc-mul at (mul-le-mul-right m h)
 
 pub below-product : (i n k m : ℕ) → i < n → k < m → i * m + k < n * m
-below-product i n k m a b = omega (arith, row-room i n m a)
+below-product i n k m a b = digits-lt a b
 
 pub factor-pos : (k n m : ℕ) → k < n * m → 0 < m
 factor-pos k n m h = ⊎-elim (λ (e : m ≡ 0). absurd (not-suc-le-zero (rw (e, mul-zero) at h))) (λ (p : 0 < m). p) (eq-zero-or-pos m)
@@ -28,10 +29,10 @@ pub in-grid : (i n m : ℕ) → i < n * m → (i / m < n) × (i % m < m)
 in-grid i n m h = let pos : 0 < m = factor-pos i n m h in (div-lt-iff-lt-mul pos .1 h, mod-lt i pos)
 
 pub row-of : (i k m : ℕ) → k < m → (i * m + k) / m ≡ i
-row-of i k m h = mul-add-div-right (lt-of-le-of-lt zero-le h) i k ∙ (rw (div-eq-of-lt h) (add-zero i))
+row-of i k m h = digits-div i h
 
 pub place-of : (i k m : ℕ) → k < m → (i * m + k) % m ≡ k
-place-of i k m h = mul-add-mod-self-right i m k ∙ mod-eq-of-lt h
+place-of i k m h = digits-mod i h
 
 -- a place has one row and one place in the row
 pub same-place : (i k i′ k′ m : ℕ) → k < m → k′ < m → i * m + k ≡ i′ * m + k′ → (i ≡ i′) × (k ≡ k′)

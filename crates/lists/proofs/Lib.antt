@@ -13,3 +13,4 @@ pub mod Arrays
 pub mod Joined
 pub mod Piece
 pub mod Columns
+pub mod Once

@@ -24,7 +24,7 @@ use Rattle.staircase.specs.Parameters.{Parameters, Accepted, Party, point}
 use Rattle.staircase.proofs.Sizes.{count-most}
 use Rattle.scheme.specs.Readers.{readersRefused}
 use Rattle.reader.specs.Basis.{basisRefusal, basisAnswer, zeroTable, basisOf}
-use Rattle.scheme.proofs.Laws.{first-none, when-none, answer-none, answer-some, answer-number, scheme-refused, parties-distinct}
+use Rattle.scheme.proofs.Laws.{first-none, when-none, answer-none, answer-some, answer-number, scheme-refused}
 
 -- ---- the first refusal
 
@@ -80,7 +80,7 @@ basis-given p parties e =
     let four = first-none _ _ e in
     let six = first-none _ _ (four .1) in
     let seven = first-none _ _ (six .1) in
-    let right = parties-distinct (p .n) parties (when-none 7 _ (omega arith) (seven .0)) in
+    let right = scheme.parties-distinct (p .n) parties (scheme.readers-rise (p .n) parties (when-none 7 _ (omega arith) (seven .0))) in
     record {
       good = four .0;
       count = not-false (occurs (length parties) (p .counts)) (when-none 6 _ (omega arith) (six .0));

@@ -8,7 +8,7 @@ use Prim.Native.Nat.{ℕ, _+_, _*_, _≤_, _<_}
 use native.Mathlib.Nat.{le-of-eq, mul-assoc}
 use native.Mathlib.Omega.{arith}
 use lib.ListN.{length, getD, take}
-use Rattle.lists.specs.Each.{Each, Byte, occurs}
+use Rattle.lists.specs.Each.{Each, Distinct, Byte, occurs}
 use Rattle.lists.specs.Table.{tabulate, piece}
 use Rattle.lists.proofs.Each.{getD-map}
 use Rattle.lists.proofs.Table.{tabulate-same}
@@ -22,7 +22,7 @@ use Rattle.scheme.specs.Check.{blockCount, rowsOfCount}
 use Rattle.family.specs.Message.{Bytes}
 use Rattle.family.specs.Exactness.{readings}
 use Rattle.family.proofs.Exactness.{gives-has}
-use Rattle.staircase.specs.Parameters.{Parameters, Accepted, parameters, block, rows, point}
+use Rattle.staircase.specs.Parameters.{Parameters, Accepted, Party, parameters, block, rows, point}
 use Rattle.staircase.specs.Coefficients.{countOf, coefficient, coefficientAt}
 use Rattle.staircase.specs.Shares.{staircase}
 use Rattle.staircase.proofs.Columns.{column-at, part-coefficient}
@@ -30,11 +30,11 @@ use Rattle.staircase.proofs.Points.{points-bytes, points-distinct}
 use Rattle.scheme.specs.Readers.{readersRefused}
 use Rattle.staircase.specs.Exactness.{prefixBytes, openedString, Gives}
 use Rattle.reader.specs.Decoding.{BasisOf, Sent, Begins}
-use Rattle.scheme.proofs.Laws.{parties-distinct}
+use Rattle.scheme.proofs.Laws.{readers-rise, parties-distinct}
 use Rattle.staircase.proofs.Sizes.{rows-within}
 use Rattle.staircase.proofs.WholeBlocks.{keys-number, exactness}
 
-module _ (p : Parameters) (A : Accepted p) (parties : List ℕ) (counted : occurs (length parties) (p .counts) ≡ true) (passed : readersRefused (p .n) parties ≡ false) where
+module _ (p : Parameters) (A : Accepted p) (parties : List ℕ) (counted : occurs (length parties) (p .counts) ≡ true) (apart : Distinct parties) (inside : Each (Party p) parties) where
   abbrev sent : ℕ
   sent = rowsOfCount (block p) (p .z) (length parties)
 
@@ -43,9 +43,7 @@ module _ (p : Parameters) (A : Accepted p) (parties : List ℕ) (counted : occur
 
   -- the basis of the parties' points
   pub basis-of : BasisOf (map (point p) parties) (basisTable (map (point p) parties))
-  basis-of =
-      let right = parties-distinct (p .n) parties passed in
-      record { is = refl; bytes = points-bytes p A parties (right .1); distinct = points-distinct p parties (right .0) }
+  basis-of = record { is = refl; bytes = points-bytes p A parties inside; distinct = points-distinct p parties apart }
 
   -- N whole blocks under keys that give these prefixes
   module _ (N : ℕ) (prefixes B K : List ℕ) (whole : Bytes (N * block p) B) (enough : Bytes (N * (rows p * p .z)) K) (G : Gives p parties N B K prefixes) where
@@ -76,7 +74,7 @@ module _ (p : Parameters) (A : Accepted p) (parties : List ℕ) (counted : occur
   unfolding staircase
   opened-sent message short prefixes h =
       let N : ℕ = blockCount (block p) message in
-      let O = exactness p A message short parties counted passed prefixes h in
+      let O = exactness p A message short parties counted apart inside prefixes h in
       let found = O .exists in
       (found .0, sent-by N prefixes (openedString p parties N prefixes) (found .0) (O .bytes) (rw (← keys-number p N) at (found .1)) (found .2))
 
@@ -93,11 +91,12 @@ module _ (s : Scheme) (ds : List ℕ) (S : SchemeIs s (s .n) (s .r) (s .z) ds) (
   unfolding prefixBytes
   begins prefixes long bytes points basis points-are basis-is out B =
       let d : ℕ = length parties in
+      let right = parties-distinct (s .n) parties (readers-rise (s .n) parties passed) in
       let blocks : N ≡ blockCount (block p) message = N-is ∙ ap (λ (m : ℕ). blockCount m message) (S .block-is) in
       let size : length prefixes ≡ d * rowsOfCount (block p) (s .z) d * blockCount (block p) message =
       long ∙ rw (S .block-is, blocks) (sym (mul-assoc d (rowsOfCount (block p) (s .z) d) (blockCount (block p) message))) in
-      let found = opened-sent p (S .passed) parties counted passed message short prefixes (size, bytes) in
-      let own : BasisOf points basis = rw (basis-is, points-are) (basis-of p (S .passed) parties counted passed) in
+      let found = opened-sent p (S .passed) parties counted (right .0) (right .1) message short prefixes (size, bytes) in
+      let own : BasisOf points basis = rw (basis-is, points-are) (basis-of p (S .passed) parties counted (right .0) (right .1)) in
       let go : (K : List ℕ) → Sent (block p) (rows p) (s .z) ds d (blockCount (block p) message) (map (point p) parties) prefixes
       (openedString p parties (blockCount (block p) message) prefixes) K → out ≡ take message (openedString p parties N prefixes) =
       λ K X. B (openedString p parties N prefixes) K own (rw (S .block-is, S .rows-is, points-are, blocks) X) in

@@ -5,6 +5,5 @@ pub use Rattle.scheme.proofs.Refusals.{sizes, refused-number}
 pub use Rattle.scheme.proofs.Accepted.{refused-four, accepted, accepted-scheme, scheme-own}
 pub use Rattle.scheme.proofs.Examples.{default-accepted}
 pub use Rattle.scheme.proofs.Written.{printed}
-pub use Rattle.scheme.proofs.SheetText.{sheet-text-short}
 pub use Rattle.scheme.proofs.Answers.{first-none, when-none, answer-none, answer-some, answer-number, answered-none, answered-some, scheme-refused}
-pub use Rattle.scheme.proofs.Parties.{parties-distinct}
+pub use Rattle.scheme.proofs.Parties.{readers-rise, readers-pass, parties-distinct}

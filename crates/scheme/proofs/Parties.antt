@@ -1,4 +1,5 @@
--- Refusal 7: where it does not apply, the parties are distinct and have numbers from 1 to n; and the test as the code makes it, party by party.
+-- Refusal 7: it does not apply exactly where the party numbers rise from 1 to n, and then they are distinct; and the test as the code makes it,
+-- party by party.
 -- Assumes nothing.
 use mathlib.Core.Path.{_≡_, refl}
 use mathlib.Core.Bool.{Bool, true, false, _||_, not, or-true}
@@ -14,28 +15,46 @@ use borrow.Author.Tests.{ltb-true, leb-true, not-false, lt-ltb, le-ltb, le-leb, 
 use Rattle.lists.specs.Each.{Each, Distinct}
 use Rattle.lists.proofs.Each.{each-imp}
 use Rattle.lists.proofs.Tests.{both, neither}
-use Rattle.scheme.specs.Readers.{rises, within, readersRefused}
+use Rattle.scheme.specs.Readers.{rises, within, readersRefused, Rising}
 
--- numbers that rise from above `below` and stay at most n
-rising : (n below : ℕ) (parties : List ℕ) → rises below parties ≡ true → within n parties ≡ true
-    → Distinct parties × Each (λ s. (below < s) × (s ≤ n)) parties
+-- ---- the test and what it stands for
+
+rising : (below n : ℕ) (parties : List ℕ) → rises below parties ≡ true → within n parties ≡ true → Rising below n parties
 unfolding rises within
-rising n below [] e w = (tt, tt)
-rising n below (s ∷ parties) e w =
+rising below n [] e w = tt
+rising below n (s ∷ parties) e w =
     let up = both (ltb below s) (rises s parties) e in
     let most = both (leb s n) (within n parties) w in
-    let rest = rising n s parties (up .1) (most .1) in
-    let low : below < s = ltb-true below s (up .0) in (
+    (ltb-true below s (up .0), leb-true s n (most .0), rising s n parties (up .1) (most .1))
+
+passes : (below n : ℕ) (parties : List ℕ) → Rising below n parties → (rises below parties ≡ true) × (within n parties ≡ true)
+unfolding rises within
+passes below n [] R = (refl, refl)
+passes below n (s ∷ parties) R =
+    let rest = passes s n parties (R .2) in
+    (rw (lt-ltb below s (R .0), rest .0), rw (le-leb s n (R .1), rest .1))
+
+pub readers-rise : (n : ℕ) (parties : List ℕ) → readersRefused n parties ≡ false → Rising 0 n parties
+unfolding readersRefused
+readers-rise n parties e =
+    let tests = neither (not (rises 0 parties)) (not (within n parties)) e in
+    rising 0 n parties (not-false (rises 0 parties) (tests .0)) (not-false (within n parties) (tests .1))
+
+pub readers-pass : (n : ℕ) (parties : List ℕ) → Rising 0 n parties → readersRefused n parties ≡ false
+unfolding readersRefused
+readers-pass n parties R = let tests = passes 0 n parties R in rw (tests .0, tests .1)
+
+-- numbers that rise are distinct and lie between
+apart : (below n : ℕ) (parties : List ℕ) → Rising below n parties → Distinct parties × Each (λ s. (below < s) × (s ≤ n)) parties
+apart below n [] R = (tt, tt)
+apart below n (s ∷ parties) R =
+    let rest = apart s n parties (R .2) in (
       (each-imp (λ y. (s < y) × (y ≤ n)) (λ y. s ≢ y) (λ y h q. omega arith) parties (rest .1), rest .0),
-      ((low, leb-true s n (most .0)), each-imp (λ y. (s < y) × (y ≤ n)) (λ y. (below < y) × (y ≤ n)) (λ y h. (omega arith, h .1)) parties (rest .1)),
+      ((R .0, R .1), each-imp (λ y. (s < y) × (y ≤ n)) (λ y. (below < y) × (y ≤ n)) (λ y h. (omega arith, h .1)) parties (rest .1)),
     )
 
-pub parties-distinct : (n : ℕ) (parties : List ℕ) → readersRefused n parties ≡ false
-    → Distinct parties × Each (λ s. (1 ≤ s) × (s ≤ n)) parties
-unfolding readersRefused
-parties-distinct n parties e =
-    let tests = neither (not (rises 0 parties)) (not (within n parties)) e in
-    rising n 0 parties (not-false (rises 0 parties) (tests .0)) (not-false (within n parties) (tests .1))
+pub parties-distinct : (n : ℕ) (parties : List ℕ) → Rising 0 n parties → Distinct parties × Each (λ s. (1 ≤ s) × (s ≤ n)) parties
+parties-distinct n parties R = apart 0 n parties R
 
 -- ---- the loop: the test of the parties from place i on, after one with the number `below`
 

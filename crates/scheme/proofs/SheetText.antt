@@ -122,8 +122,3 @@ pub sheet-given : (input : List ℕ) → (length input ≡ 0 → ⊥)
 unfolding sheetText
 sheet-given [] e = absurd (e refl)
 sheet-given (n ∷ more) e = refl
-
-pub sheet-text-short : (input : List ℕ) → length (sheetText input) ≤ maxText
-unfolding sheetText
-sheet-text-short [] = scheme-text-short defaultN defaultR defaultZ defaultCounts
-sheet-text-short (n ∷ more) = scheme-text-short n (getD more 0 0) (getD more 1 0) _

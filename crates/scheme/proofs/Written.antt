@@ -9,32 +9,32 @@ use native.Mathlib.Omega.{arith}
 use lib.ListN.{length, set, take, replicate, length-append}
 use lib.Seq.{set-out}
 use Rattle.scheme.specs.declared.writer.Text.{Text}
-use Rattle.scheme.specs.Writing.{Whole, Holds, Adds, maxText, padded}
+use Rattle.scheme.specs.Writing.{Whole, Holds, Adds, maxText, withZeros}
 
-pub padded-none : (k : ℕ) → padded k [] ≡ replicate k 0
-unfolding padded
-padded-none zero = refl
-padded-none (suc k) = ap (λ l. 0 ∷ l) (padded-none k)
+pub zeros-none : (k : ℕ) → withZeros k [] ≡ replicate k 0
+unfolding withZeros
+zeros-none zero = refl
+zeros-none (suc k) = ap (λ l. 0 ∷ l) (zeros-none k)
 
-length-padded : (k : ℕ) (text : List ℕ) → length (padded k text) ≡ k
-unfolding padded
-length-padded zero text = refl
-length-padded (suc k) [] = ap suc (length-padded k [])
-length-padded (suc k) (x ∷ text) = ap suc (length-padded k text)
+length-zeros : (k : ℕ) (text : List ℕ) → length (withZeros k text) ≡ k
+unfolding withZeros
+length-zeros zero text = refl
+length-zeros (suc k) [] = ap suc (length-zeros k [])
+length-zeros (suc k) (x ∷ text) = ap suc (length-zeros k text)
 
 -- a text that fits is what the array starts with
-take-padded : (k : ℕ) (text : List ℕ) → length text ≤ k → take (length text) (padded k text) ≡ text
-unfolding padded
-take-padded k [] h = refl
-take-padded zero (x ∷ text) h = absurd (not-suc-le-zero h)
-take-padded (suc k) (x ∷ text) h = ap (λ l. x ∷ l) (take-padded k text (le-of-suc-le-suc h))
+take-zeros : (k : ℕ) (text : List ℕ) → length text ≤ k → take (length text) (withZeros k text) ≡ text
+unfolding withZeros
+take-zeros k [] h = refl
+take-zeros zero (x ∷ text) h = absurd (not-suc-le-zero h)
+take-zeros (suc k) (x ∷ text) h = ap (λ l. x ∷ l) (take-zeros k text (le-of-suc-le-suc h))
 
 -- a byte more is written after the text, and nowhere where the text is full
-padded-byte : (k : ℕ) (text : List ℕ) (b : ℕ) → set (padded k text) (length text) b ≡ padded k (text ++ (b ∷ []))
-unfolding padded
-padded-byte zero text b = refl
-padded-byte (suc k) [] b = refl
-padded-byte (suc k) (x ∷ text) b = ap (λ l. x ∷ l) (padded-byte k text b)
+zeros-byte : (k : ℕ) (text : List ℕ) (b : ℕ) → set (withZeros k text) (length text) b ≡ withZeros k (text ++ (b ∷ []))
+unfolding withZeros
+zeros-byte zero text b = refl
+zeros-byte (suc k) [] b = refl
+zeros-byte (suc k) (x ∷ text) b = ap (λ l. x ∷ l) (zeros-byte k text b)
 
 module _ (t : Text) (text : List ℕ) (b : ℕ) (h : Holds t text) where
   pub holds-byte : t .length < maxText
@@ -43,7 +43,7 @@ module _ (t : Text) (text : List ℕ) (b : ℕ) (h : Holds t text) where
       let e : t .length ≡ length text = omega arith in
       record {
         long = simp length-append (omega arith);
-        bytes = rw (e, h .bytes) (padded-byte maxText text b);
+        bytes = rw (e, h .bytes) (zeros-byte maxText text b);
       }
 
   pub holds-full : maxText ≤ t .length → Holds t (text ++ (b ∷ []))
@@ -52,7 +52,7 @@ module _ (t : Text) (text : List ℕ) (b : ℕ) (h : Holds t text) where
       record {
         long = simp length-append (omega arith);
         bytes =
-            h .bytes ∙ sym (set-out (padded maxText text) (length text) b (rw (length-padded) e)) ∙ padded-byte maxText text b;
+            h .bytes ∙ sym (set-out (withZeros maxText text) (length text) b (rw (length-zeros) e)) ∙ zeros-byte maxText text b;
       }
 
 pub adds-none : (t : Text) → Adds t t []
@@ -67,11 +67,11 @@ adds-then {xs = xs} f g =
 -- of a text that fits nothing is dropped
 pub whole : {t : Text} {text : List ℕ} → Holds t text → length text ≤ maxText → Whole t text
 whole {t} {text} h fits =
-    let room : length (t .bytes) ≡ maxText = ap length (h .bytes) ∙ length-padded maxText text in
+    let room : length (t .bytes) ≡ maxText = ap length (h .bytes) ∙ length-zeros maxText text in
     record { within = omega arith; long = omega arith; bytes = h .bytes }
 
 -- what is printed is the text
 pub printed : (t : Text) (text : List ℕ) → Whole t text → take (t .length) (t .bytes) ≡ text
 printed t text w =
-    let room : length (t .bytes) ≡ maxText = ap length (w .bytes) ∙ length-padded maxText text in
-    rw (w .long, w .bytes) (take-padded maxText text (omega (arith, w .within, w .long)))
+    let room : length (t .bytes) ≡ maxText = ap length (w .bytes) ∙ length-zeros maxText text in
+    rw (w .long, w .bytes) (take-zeros maxText text (omega (arith, w .within, w .long)))

@@ -2,7 +2,7 @@
 -- Assumes nothing.
 use mathlib.Core.Bool.{Bool, true, _&&_, _||_, not}
 use mathlib.Core.List.{List, [], _∷_}
-use Prim.Native.Nat.{ℕ}
+use Prim.Native.Nat.{ℕ, _≤_, _<_}
 use lib.Dec.{ltb, leb}
 
 -- do the party numbers rise strictly, from above `below`?
@@ -18,3 +18,8 @@ within n (s ∷ parties) = leb s n && within n parties
 -- refusal 7: the party numbers do not rise strictly, or one is outside 1 to n
 unfoldable pub readersRefused : ℕ → List ℕ → Bool
 readersRefused n parties = not (rises 0 parties) || not (within n parties)
+
+-- the numbers for which it does not apply: each is above the one before, the first above `below`, and none is above n
+abbrev pub Rising : ℕ → ℕ → List ℕ → Type 0
+Rising below n [] = Unit {0}
+Rising below n (s ∷ parties) = (below < s) × (s ≤ n) × Rising s n parties

@@ -1,20 +1,22 @@
 -- Demand 2, the way there and back: what was split comes back.
 -- Assumes nothing.
 use mathlib.Core.Path.{_≡_, sym, ap, _∙_}
-use mathlib.Core.Bool.{true, false}
-use mathlib.Core.List.{List}
+use mathlib.Core.Bool.{true}
+use mathlib.Core.List.{List, [], _∷_}
 use Prim.Native.Nat.{ℕ, _*_, _≤_, _<_}
 use native.Mathlib.Nat.{mul-comm, mul-le-mul-right}
 use lib.ListN.{length, getD, take}
 use lib.Seq.{length-take-le}
 use borrow.Author.Tests.{eq-eqb, le-ltb}
-use Rattle.lists.specs.Each.{Each, Byte, occurs}
+use Rattle.lists.specs.Each.{Each, Distinct, Byte, occurs}
 use Rattle.lists.specs.Table.{joined}
 use Rattle.lists.proofs.Each.{each-getD}
 use Rattle.lists.proofs.Joined.{length-joined, joined-same, piece-joined}
 use Rattle.scheme.specs.Limits.{maxMessage}
+use Rattle.scheme.specs.Outcome as outcome
+use Rattle.scheme.specs.Outcome.{firstOf}
 use Rattle.scheme.specs.Check.{blockCount, rowsOfCount}
-use Rattle.scheme.proofs.Laws.{accepted, parties-distinct}
+use Rattle.scheme.proofs.Laws.{accepted, answer-none, readers-pass, parties-distinct}
 use Rattle.family.specs.Message.{padded}
 use Rattle.family.specs.Family.{shareOfBlocks}
 use Rattle.family.specs.Exactness as family
@@ -24,19 +26,17 @@ use Rattle.staircase.specs.Parameters.{Parameters, Accepted, Party, block, rows
 use Rattle.staircase.specs.Shares.{staircase, partOf, KeyString}
 use Rattle.staircase.proofs.Hidden.{part-is-share}
 use Rattle.staircase.proofs.Sizes.{rows-within}
-use Rattle.scheme.specs.Outcome.{firstOf}
 use Rattle.dealer.specs.Split.{splitOutput}
 use Rattle.party.specs.Prefix.{prefixRefusal, prefixLength, prefixOf}
-use Rattle.scheme.specs.Readers.{readersRefused}
 use Rattle.staircase.specs.Exactness.{prefixBytes, openedString}
-use Rattle.reader.specs.Reconstruct.{reconstructRefusal, reconstructOutput}
+use Rattle.reader.specs.Reconstruct.{reconstructRefusal, reconstructAnswer, reconstructOutput}
 use Rattle.sharing.specs.Secrecy.{wanted}
 use Rattle.sharing.specs.RoundTrip.{handed, RoundTrip}
 use Rattle.staircase.proofs.WholeBlocks.{keys-number, exact, bytes-number}
 use Rattle.dealer.proofs.Laws.{none-applies, written}
 
 module _ (p : Parameters) (A : Accepted p) (message keys : List ℕ) (bytes : Each Byte message) (short : length message ≤ maxMessage) (K : KeyString p (length message) keys)
-    (parties : List ℕ) (counted : occurs (length parties) (p .counts) ≡ true) (passed : readersRefused (p .n) parties ≡ false)
+    (parties : List ℕ) (counted : occurs (length parties) (p .counts) ≡ true) (apart : Distinct parties) (inside : Each (Party p) parties)
     (before : List ℕ) (room : length before ≡ wanted p (length message)) where
   abbrev N : ℕ
   N = blockCount (block p) (length message)
@@ -55,7 +55,7 @@ module _ (p : Parameters) (A : Accepted p) (message keys : List ℕ) (bytes : Ea
       → partOf p N (getD parties a 0) (splitOutput p message keys before) ≡ shareOfBlocks (staircase p) N (padded (block p) message) keys (getD parties a 0)
   share-written a h =
       ap (partOf p N (getD parties a 0)) (written p message keys before (none-applies p A (length message) (length keys) (length before) short (K .0) room))
-      ∙ part-is-share p message keys (getD parties a 0) (each-getD {A = ℕ} (Party p) parties a 0 h (parties-distinct (p .n) parties passed .1))
+      ∙ part-is-share p message keys (getD parties a 0) (each-getD {A = ℕ} (Party p) parties a 0 h inside)
 
   share-long : (s : ℕ) → length (shareOfBlocks (staircase p) N (padded (block p) message) keys s) ≡ rows p * N
   unfolding staircase
@@ -79,7 +79,7 @@ module _ (p : Parameters) (A : Accepted p) (message keys : List ℕ) (bytes : Ea
 
   pub handed-long : length (handed p (length message) parties (splitOutput p message keys before)) ≡ prefixBytes p (length parties) N
   handed-long =
-      ap length handed-is ∙ length-joined {A = ℕ} (length parties) (rowsSent * N) prefixAt (λ a _. prefix-long a) ∙ sym (bytes-number p A parties counted passed N)
+      ap length handed-is ∙ length-joined {A = ℕ} (length parties) (rowsSent * N) prefixAt (λ a _. prefix-long a) ∙ sym (bytes-number p A parties counted apart inside N)
 
   positive : 0 < staircase p .block
   unfolding staircase
@@ -90,13 +90,14 @@ module _ (p : Parameters) (A : Accepted p) (message keys : List ℕ) (bytes : Ea
   returned =
       rw handed-is
       (message-back (staircase p) parties rowsSent (rowsSent * p .z) _ positive message keys (joined (length parties) prefixAt) bytes
-      (exact p A parties counted passed N) (rw (← keys-number p N) at K)
+      (exact p A parties counted apart inside N) (rw (← keys-number p N) at K)
       (λ a h. sym (piece-joined {A = ℕ} (length parties) (rowsSent * N) prefixAt (λ a _. prefix-long a) a h)))
 
 pub round-trip : (p : Parameters) → RoundTrip p
-unfolding reconstructOutput reconstructRefusal firstOf
-round-trip p A message keys bytes short K parties counted passed before out room fits =
-    let long = handed-long p A message keys bytes short K parties counted passed before room in
+unfolding reconstructOutput reconstructAnswer reconstructRefusal firstOf
+round-trip p A message keys bytes short K parties counted rising before out room fits =
+    let right = parties-distinct (p .n) parties rising in
+    let long = handed-long p A message keys bytes short K parties counted (right .0) (right .1) before room in
     let passes : reconstructRefusal p (length message) parties (length (handed p (length message) parties (splitOutput p message keys before))) (length out) ≡ 0 =
-    simp (A, le-ltb maxMessage (length message) short, counted, passed, eq-eqb _ _ long, eq-eqb _ _ fits) in
-    (passes, simp passes (returned p A message keys bytes short K parties counted passed before room))
+    simp (A, le-ltb maxMessage (length message) short, counted, readers-pass (p .n) parties rising, eq-eqb _ _ long, eq-eqb _ _ fits) in
+    (answer-none _ _ passes ∙ ap (λ (x : ℕ). outcome.accepted (x ∷ [])) (sym long), simp passes (returned p A message keys bytes short K parties counted (right .0) (right .1) before room))

@@ -5,8 +5,9 @@ use mathlib.Core.List.{List, []}
 use Prim.Native.Nat.{ℕ, _≤_}
 use native.Mathlib.Omega.{arith}
 use lib.ListN.{length}
-use Rattle.lists.specs.Each.{Each, Distinct, Byte}
+use Rattle.lists.specs.Each.{Each, Byte}
 use Rattle.lists.proofs.Each.{map-each}
+use Rattle.lists.proofs.Once.{once, once-distinct, once-short, once-each, each-once}
 use Rattle.scheme.specs.Limits.{maxMessage}
 use Rattle.scheme.specs.Outcome.{Outcome, outcome}
 use Rattle.scheme.specs.Check.{blockCount}
@@ -24,9 +25,10 @@ use Rattle.sharing.specs.Secrecy.{wanted, Secret, Secrecy, Call, written
 -- ---- secrecy
 
 pub secrecy : (p : Parameters) → Secrecy p
-secrecy p A first second h₁ h₂ e short parties in-range apart few =
+secrecy p A first second h₁ h₂ e short parties in-range few =
     let N : ℕ = blockCount (block p) (length first) in
-    let H = rw (keys-number p N) at (message-hidden p A parties in-range apart few first second h₁ h₂ e) in
+    let T : List ℕ = once parties in
+    let H = rw (keys-number p N) at (message-hidden p A T (once-each (Party p) parties in-range) (once-distinct parties) (omega (arith, once-short parties)) first second h₁ h₂ e) in
     let first-passes : (keys before : List ℕ) → KeyString p (length first) keys → length before ≡ wanted p (length first)
     → splitRefusal p (length first) (length keys) (length before) ≡ 0 =
     λ keys before K b. none-applies p A (length first) (length keys) (length before) short (K .0) b in
@@ -45,12 +47,12 @@ secrecy p A first second h₁ h₂ e short parties in-range apart few =
             written-out p first keys before (first-passes keys before K b),
             written-out p second (H .change keys) before′ (second-passes (H .change keys) before′ (H .into keys K) b′),
           )
-          (map-each {A = ℕ} {B = List ℕ} (λ s. partOf p N s (shares p first keys)) (λ s. partOf p N s (shares p second (H .change keys))) parties (H .same keys K));
+          (each-once _ parties (map-each {A = ℕ} {B = List ℕ} (λ s. partOf p N s (shares p first keys)) (λ s. partOf p N s (shares p second (H .change keys))) T (H .same keys K)));
     }
 
 -- the form without a scheme
 pub default-secrecy : (first second : List ℕ) → Each Byte first → Each Byte second → length first ≡ length second → length first ≤ maxMessage
-    → (parties : List ℕ) → Each (Party defaultParameters) parties → Distinct parties → length parties ≤ defaultParameters .z
+    → (parties : List ℕ) → Each (Party defaultParameters) parties → length parties ≤ defaultParameters .z
     → Secret defaultParameters first second parties
 default-secrecy = secrecy defaultParameters default-accepted
 

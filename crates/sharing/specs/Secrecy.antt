@@ -4,7 +4,7 @@ use mathlib.Core.Path.{_≡_}
 use mathlib.Core.List.{List}
 use Prim.Native.Nat.{ℕ, _*_, _≤_}
 use lib.ListN.{length}
-use Rattle.lists.specs.Each.{Each, Distinct, Byte}
+use Rattle.lists.specs.Each.{Each, Byte}
 use Rattle.scheme.specs.Limits.{maxMessage}
 use Rattle.scheme.specs.declared.Answer.{Answer}
 use Rattle.scheme.specs.declared.Answer.the-variants.{Accepted as Answered, Refused}
@@ -38,12 +38,12 @@ pub record Secret (p : Parameters) (first second parties : List ℕ) : Type 0 wh
       ≡ partOf p (blockCount (block p) (length first)) s (splitOutput p second (change keys) before′))
       parties
 
--- for every accepted scheme, every two messages of one accepted length and every choice of at most z parties
+-- for every accepted scheme, every two messages of one accepted length and every choice of at most z parties, none included
 abbrev pub Secrecy : Parameters → Type 0
 Secrecy p =
     Accepted p
     → (first second : List ℕ) → Each Byte first → Each Byte second → length first ≡ length second → length first ≤ maxMessage
-    → (parties : List ℕ) → Each (Party p) parties → Distinct parties → length parties ≤ p .z
+    → (parties : List ℕ) → Each (Party p) parties → length parties ≤ p .z
     → Secret p first second parties
 
 -- a call of the splitter: what its contract says of its answer and of its output before and after

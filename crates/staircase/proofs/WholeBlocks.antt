@@ -1,7 +1,7 @@
 -- Whole blocks: every string of prefixes opens to the one string of whole blocks that has them.
 -- Assumes nothing.
 use mathlib.Core.Path.{_≡_, sym, ap, _∙_}
-use mathlib.Core.Bool.{true, false}
+use mathlib.Core.Bool.{true}
 use mathlib.Core.List.{List, map}
 use Prim.Native.Nat.{ℕ, _+_, _*_, _<_}
 use native.Mathlib.Nat.{mul-assoc, mul-comm, add-mul}
@@ -14,8 +14,6 @@ use Rattle.lists.proofs.Each.{occurs-place}
 use Rattle.lists.proofs.Joined.{below-product}
 use Rattle.lists.proofs.Piece.{getD-piece}
 use Rattle.scheme.specs.Check.{blockCount, rowsOfCount}
-use Rattle.scheme.specs.Readers.{readersRefused}
-use Rattle.scheme.proofs.Laws.{parties-distinct}
 use Rattle.family.specs.Message.{Bytes}
 use Rattle.family.specs.Exactness as family
 use Rattle.family.proofs.Exactness.{blocks-exact}
@@ -31,7 +29,7 @@ pub keys-number : (p : Parameters) (N : ℕ) → N * staircase p .keys ≡ N * p
 unfolding staircase
 keys-number p N = ap (λ (k : ℕ). N * k) (mul-comm (rows p) (p .z)) ∙ sym (mul-assoc N (p .z) (rows p))
 
-module _ (p : Parameters) (A : Accepted p) (parties : List ℕ) (counted : occurs (length parties) (p .counts) ≡ true) (passed : readersRefused (p .n) parties ≡ false) where
+module _ (p : Parameters) (A : Accepted p) (parties : List ℕ) (counted : occurs (length parties) (p .counts) ≡ true) (apart : Distinct parties) (inside : Each (Party p) parties) where
   abbrev sent : ℕ
   sent = rowsOfCount (block p) (p .z) (length parties)
 
@@ -39,15 +37,12 @@ module _ (p : Parameters) (A : Accepted p) (parties : List ℕ) (counted : occur
   at : (i : ℕ) × (i < length (p .counts)) × (getD (p .counts) i 0 ≡ length parties)
   at = occurs-place (length parties) (p .counts) counted
 
-  valid : Distinct parties × Each (Party p) parties
-  valid = parties-distinct (p .n) parties passed
-
   -- N blocks are opened exactly
   pub exact : (N : ℕ) → family.Exact (staircase p) parties sent (sent * p .z) (openedBlock (block p) (p .z) (p .counts) (map (point p) parties)) N
   unfolding staircase
   exact =
       blocks-exact (staircase p) parties sent (sent * p .z) _ _ (rows-within p A (length parties) counted)
-      (staircase-exact p A (at .0) (at .1) parties (valid .1) (valid .0) (sym (at .2)))
+      (staircase-exact p A (at .0) (at .1) parties inside apart (sym (at .2)))
 
   pub bytes-number : (N : ℕ) → prefixBytes p (length parties) N ≡ length parties * (sent * N)
   unfolding prefixBytes
@@ -84,4 +79,4 @@ module _ (p : Parameters) (A : Accepted p) (parties : List ℕ) (counted : occur
       }
 
 pub exactness : (p : Parameters) → Exactness p
-exactness p A message short parties counted passed prefixes h = opened p A parties counted passed message prefixes h
+exactness p A message short parties counted apart inside prefixes h = opened p A parties counted apart inside message prefixes h

@@ -1,18 +1,17 @@
 -- Demand 2 of the request: opening is exact. For whole blocks, whatever their padding: a message is the beginning of its blocks.
 -- Assumes nothing.
 use mathlib.Core.Path.{_≡_}
-use mathlib.Core.Bool.{true, false}
+use mathlib.Core.Bool.{true}
 use mathlib.Core.List.{List, map}
 use Prim.Native.Nat.{ℕ, _+_, _*_, _≤_, _<_}
 use lib.ListN.{length, getD}
-use Rattle.lists.specs.Each.{occurs}
+use Rattle.lists.specs.Each.{Each, Distinct, occurs}
 use Rattle.scheme.specs.Limits.{maxMessage}
 use Rattle.scheme.specs.Check.{blockCount, rowsOfCount}
-use Rattle.scheme.specs.Readers.{readersRefused}
 use Rattle.family.specs.Message.{Bytes}
 use Rattle.family.specs.Exactness as family
 use Rattle.family.specs.Exactness.{openedBlocks}
-use Rattle.staircase.specs.Parameters.{Parameters, Accepted, block, rows, point}
+use Rattle.staircase.specs.Parameters.{Parameters, Accepted, Party, block, rows, point}
 use Rattle.staircase.specs.Shares.{staircase, KeyString}
 use Rattle.staircase.specs.Opening.{openedBlock}
 
@@ -52,6 +51,6 @@ abbrev pub Exactness : Parameters → Type 0
 Exactness p =
     Accepted p
     → (message : ℕ) → message ≤ maxMessage
-    → (parties : List ℕ) → occurs (length parties) (p .counts) ≡ true → readersRefused (p .n) parties ≡ false
+    → (parties : List ℕ) → occurs (length parties) (p .counts) ≡ true → Distinct parties → Each (Party p) parties
     → (prefixes : List ℕ) → Bytes (prefixBytes p (length parties) (blockCount (block p) message)) prefixes
     → Opened p message parties prefixes

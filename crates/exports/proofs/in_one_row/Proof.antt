@@ -2,26 +2,27 @@
 -- Assumes nothing.
 use mathlib.Core.Path.{refl}
 use mathlib.Core.List.{[]}
-use Prim.Native.Nat.{_/_, _%_, _-_}
+use Prim.Native.Nat.{_*_, _/_, _%_, _-_}
 use native.Mathlib.Omega.{arith}
 use lib.ListN.{getD}
 use Rattle.lists.proofs.Fill.{Fill, fill-none, fill-more, fill-all}
+use Rattle.interpolation.specs.Interpolation.{side}
 use Rattle.exports.specs.Fields.{flattened}
 use Rattle.exports.proofs.in_one_row.Statement.{statement}
 use Rattle.exports.proofs.in_one_row.Tie as tie
 
 abbrev Inv-loop : tie.InvT-loop
-Inv-loop table weights₀ k₀ weights k = Fill (λ k. getD (getD table (k / 16) []) (k % 16) 0) 256 k weights
+Inv-loop table weights₀ k₀ weights k = Fill (λ k. getD (getD table (k / side) []) (k % side) 0) (side * side) k weights
 
 abbrev μ-loop : tie.MeasureT-loop
-μ-loop table weights₀ k₀ weights k = 256 - k
+μ-loop table weights₀ k₀ weights k = side * side - k
 
 pub in-one-row-spec : {M : Type 1} → statement M
 unfolding flattened
 in-one-row-spec =
     tie.close
     (tie.spec Inv-loop μ-loop
-    (λ c. fill-none _ 256 _ refl)
+    (λ c. fill-none _ (side * side) _ refl)
     (λ c. omega arith)
     (λ c. omega arith)
     (λ c. omega arith)

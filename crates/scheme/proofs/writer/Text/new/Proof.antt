@@ -2,7 +2,7 @@
 -- Assumes nothing.
 use mathlib.Core.Path.{refl, sym}
 use Rattle.scheme.specs.Writing.{maxText}
-use Rattle.scheme.proofs.Written.{padded-none}
+use Rattle.scheme.proofs.Written.{zeros-none}
 use Rattle.scheme.proofs.writer.Text.new.Statement.{statement}
 use Rattle.scheme.proofs.writer.Text.new.Tie as tie
 
@@ -10,4 +10,4 @@ pub new-spec : {M : Type 1} → statement M
 new-spec =
     tie.close
     (tie.spec
-    (λ c. record { long = refl; bytes = sym (padded-none maxText) }))
+    (λ c. record { long = refl; bytes = sym (zeros-none maxText) }))
