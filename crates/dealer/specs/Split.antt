@@ -2,29 +2,29 @@
 -- Assumes nothing.
 use mathlib.Core.Bool.{cond, not}
 use mathlib.Core.List.{List, [], _∷_}
-use Prim.Native.Nat.{ℕ, _*_}
+use Prim.Native.Nat.{ℕ}
 use lib.Dec.{ltb, eqb}
 use lib.ListN.{length}
 use Rattle.scheme.specs.Limits.{maxMessage}
 use Rattle.scheme.specs.Outcome.{Outcome, when, firstOf, answer}
-use Rattle.scheme.specs.Check.{refusal, blockCount}
-use Rattle.staircase.specs.Parameters.{Parameters, block, rows}
+use Rattle.scheme.specs.Check.{refusal}
+use Rattle.staircase.specs.Parameters.{Parameters, blocksOf, keyBytes, shareBytes, outputBytes}
 use Rattle.staircase.specs.Shares.{shares}
 
 -- the first refusal that applies to a message, keys and an output of so many bytes
 unfoldable pub splitRefusal : Parameters → ℕ → ℕ → ℕ → ℕ
 splitRefusal p message keys out =
-    let N : ℕ = blockCount (block p) message in
+    let N : ℕ = blocksOf p message in
     firstOf
     (refusal (p .n) (p .r) (p .z) (p .counts)
     ∷ when 5 (ltb maxMessage message)
-    ∷ when 8 (not (eqb keys (N * p .z * rows p)))
-    ∷ when 10 (not (eqb out (p .n * N * rows p)))
+    ∷ when 8 (not (eqb keys (keyBytes p N)))
+    ∷ when 10 (not (eqb out (outputBytes p N)))
     ∷ [])
 
 -- accepted: the bytes of a share, N × b
 unfoldable pub splitAnswer : Parameters → ℕ → ℕ → ℕ → Outcome
-splitAnswer p message keys out = answer (splitRefusal p message keys out) (blockCount (block p) message * rows p ∷ [])
+splitAnswer p message keys out = answer (splitRefusal p message keys out) (shareBytes p (blocksOf p message) ∷ [])
 
 -- the output after the call: all shares, or what it held before where the call is refused
 unfoldable pub splitOutput : Parameters → List ℕ → List ℕ → List ℕ → List ℕ

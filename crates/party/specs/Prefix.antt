@@ -8,23 +8,23 @@ use lib.ListN.{length, take}
 use Rattle.lists.specs.Each.{occurs}
 use Rattle.scheme.specs.Limits.{maxMessage}
 use Rattle.scheme.specs.Outcome.{Outcome, when, firstOf, answer}
-use Rattle.scheme.specs.Check.{refusal, blockCount, rowsOfCount}
-use Rattle.staircase.specs.Parameters.{Parameters, block, rows}
+use Rattle.scheme.specs.Check.{refusal}
+use Rattle.staircase.specs.Parameters.{Parameters, prefixRows, blocksOf, shareBytes}
 
 -- the first refusal that applies to a message's length, a count and a share of so many bytes
 unfoldable pub prefixRefusal : Parameters → ℕ → ℕ → ℕ → ℕ
 prefixRefusal p message d share =
-    let N : ℕ = blockCount (block p) message in
+    let N : ℕ = blocksOf p message in
     firstOf
     (refusal (p .n) (p .r) (p .z) (p .counts)
     ∷ when 5 (ltb maxMessage message)
     ∷ when 6 (not (occurs d (p .counts)))
-    ∷ when 9 (not (eqb share (N * rows p)))
+    ∷ when 9 (not (eqb share (shareBytes p N)))
     ∷ [])
 
 -- the bytes of the prefix, P × N
 unfoldable pub prefixLength : Parameters → ℕ → ℕ → ℕ
-prefixLength p message d = rowsOfCount (block p) (p .z) d * blockCount (block p) message
+prefixLength p message d = prefixRows p d * blocksOf p message
 
 unfoldable pub prefixAnswer : Parameters → ℕ → ℕ → ℕ → Outcome
 prefixAnswer p message d share = answer (prefixRefusal p message d share) (prefixLength p message d ∷ [])

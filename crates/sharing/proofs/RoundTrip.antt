@@ -22,7 +22,7 @@ use Rattle.family.specs.Family.{shareOfBlocks}
 use Rattle.family.specs.Exactness as family
 use Rattle.family.proofs.Shares.{length-share}
 use Rattle.family.proofs.Exactness.{message-back}
-use Rattle.staircase.specs.Parameters.{Parameters, Accepted, Party, block, rows}
+use Rattle.staircase.specs.Parameters.{Parameters, Accepted, Party, block, rows, blocksOf, outputBytes}
 use Rattle.staircase.specs.Shares.{staircase, partOf, KeyString}
 use Rattle.staircase.proofs.Hidden.{part-is-share}
 use Rattle.staircase.proofs.Sizes.{rows-within}
@@ -30,14 +30,13 @@ use Rattle.dealer.specs.Split.{splitOutput}
 use Rattle.party.specs.Prefix.{prefixRefusal, prefixLength, prefixOf}
 use Rattle.staircase.specs.Exactness.{prefixBytes, openedString}
 use Rattle.reader.specs.Reconstruct.{reconstructRefusal, reconstructAnswer, reconstructOutput}
-use Rattle.sharing.specs.Secrecy.{wanted}
 use Rattle.sharing.specs.RoundTrip.{handed, RoundTrip}
 use Rattle.staircase.proofs.WholeBlocks.{keys-number, exact, bytes-number}
 use Rattle.dealer.proofs.Laws.{none-applies, written}
 
 module _ (p : Parameters) (A : Accepted p) (message keys : List ℕ) (bytes : Each Byte message) (short : length message ≤ maxMessage) (K : KeyString p (length message) keys)
     (parties : List ℕ) (counted : occurs (length parties) (p .counts) ≡ true) (apart : Distinct parties) (inside : Each (Party p) parties)
-    (before : List ℕ) (room : length before ≡ wanted p (length message)) where
+    (before : List ℕ) (room : length before ≡ outputBytes p (blocksOf p (length message))) where
   abbrev N : ℕ
   N = blockCount (block p) (length message)
 

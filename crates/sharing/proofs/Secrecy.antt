@@ -10,9 +10,8 @@ use Rattle.lists.proofs.Each.{map-each}
 use Rattle.lists.proofs.Once.{once, once-distinct, once-short, once-each, each-once}
 use Rattle.scheme.specs.Limits.{maxMessage}
 use Rattle.scheme.specs.Outcome.{Outcome, outcome}
-use Rattle.scheme.specs.Check.{blockCount}
 use Rattle.scheme.proofs.Laws.{default-accepted, answered-none, answered-some}
-use Rattle.staircase.specs.Parameters.{Parameters, Party, defaultParameters, block}
+use Rattle.staircase.specs.Parameters.{Parameters, Party, defaultParameters, blocksOf, outputBytes}
 use Rattle.staircase.specs.Shares.{shares, partOf, KeyString}
 use Rattle.staircase.proofs.Hidden.{message-hidden}
 use Rattle.staircase.proofs.WholeBlocks.{keys-number}
@@ -20,19 +19,19 @@ use Rattle.scheme.specs.declared.Answer.{Answer}
 use Rattle.scheme.specs.declared.Answer.the-variants.{Accepted as Answered, Refused}
 use Rattle.dealer.specs.Split.{splitRefusal, splitAnswer}
 use Rattle.dealer.proofs.Laws.{none-applies, written as written-out, unwritten, output-long}
-use Rattle.sharing.specs.Secrecy.{wanted, Secret, Secrecy, Call, written, Wrote, OutcomeFromLengths}
+use Rattle.sharing.specs.Secrecy.{Secret, Secrecy, Call, written, Wrote, OutcomeFromLengths}
 
 -- ---- secrecy
 
 pub secrecy : (p : Parameters) → Secrecy p
 secrecy p A first second h₁ h₂ e short parties in-range few =
-    let N : ℕ = blockCount (block p) (length first) in
+    let N : ℕ = blocksOf p (length first) in
     let T : List ℕ = once parties in
     let H = rw (keys-number p N) at (message-hidden p A T (once-each (Party p) parties in-range) (once-distinct parties) (omega (arith, once-short parties)) first second h₁ h₂ e) in
-    let first-passes : (keys before : List ℕ) → KeyString p (length first) keys → length before ≡ wanted p (length first)
+    let first-passes : (keys before : List ℕ) → KeyString p (length first) keys → length before ≡ outputBytes p (blocksOf p (length first))
     → splitRefusal p (length first) (length keys) (length before) ≡ 0 =
     λ keys before K b. none-applies p A (length first) (length keys) (length before) short (K .0) b in
-    let second-passes : (keys before : List ℕ) → KeyString p (length first) keys → length before ≡ wanted p (length first)
+    let second-passes : (keys before : List ℕ) → KeyString p (length first) keys → length before ≡ outputBytes p (blocksOf p (length first))
     → splitRefusal p (length second) (length keys) (length before) ≡ 0 =
     λ keys before K b. rw e at (first-passes keys before K b) in
     record {

@@ -2,21 +2,16 @@
 -- Assumes nothing.
 use mathlib.Core.Path.{_≡_}
 use mathlib.Core.List.{List}
-use Prim.Native.Nat.{ℕ, _*_, _≤_}
+use Prim.Native.Nat.{ℕ, _≤_}
 use lib.ListN.{length}
 use Rattle.lists.specs.Each.{Each, Byte}
 use Rattle.scheme.specs.Limits.{maxMessage}
 use Rattle.scheme.specs.declared.Answer.{Answer}
 use Rattle.scheme.specs.declared.Answer.the-variants.{Accepted as Answered, Refused}
 use Rattle.scheme.specs.Outcome.{outcome}
-use Rattle.scheme.specs.Check.{blockCount}
-use Rattle.staircase.specs.Parameters.{Parameters, Accepted, Party, block, rows}
+use Rattle.staircase.specs.Parameters.{Parameters, Accepted, Party, blocksOf, outputBytes}
 use Rattle.staircase.specs.Shares.{shares, partOf, KeyString}
 use Rattle.dealer.specs.Split.{splitRefusal, splitAnswer, splitOutput}
-
--- the output's length that the splitter wants for a message of so many bytes
-abbrev pub wanted : Parameters → ℕ → ℕ
-wanted p message = p .n * blockCount (block p) message * rows p
 
 -- a change of the key string under which each of these parties is written the same of either message
 pub record Secret (p : Parameters) (first second parties : List ℕ) : Type 0 where
@@ -27,15 +22,15 @@ pub record Secret (p : Parameters) (first second parties : List ℕ) : Type 0 wh
   pub onto : (keys : List ℕ) → KeyString p (length first) keys → (from : List ℕ) × KeyString p (length first) from × (change from ≡ keys)
   -- both calls are accepted, whatever the outputs held before
   pub accepted : (keys before before′ : List ℕ) → KeyString p (length first) keys
-      → length before ≡ wanted p (length first) → length before′ ≡ wanted p (length first)
+      → length before ≡ outputBytes p (blocksOf p (length first)) → length before′ ≡ outputBytes p (blocksOf p (length first))
       → (splitRefusal p (length first) (length keys) (length before) ≡ 0) × (splitRefusal p (length second) (length (change keys)) (length before′) ≡ 0)
   -- and write each of the parties the same bytes
   pub same : (keys before before′ : List ℕ) → KeyString p (length first) keys
-      → length before ≡ wanted p (length first) → length before′ ≡ wanted p (length first)
+      → length before ≡ outputBytes p (blocksOf p (length first)) → length before′ ≡ outputBytes p (blocksOf p (length first))
       → Each
       (λ s.
-      partOf p (blockCount (block p) (length first)) s (splitOutput p first keys before)
-      ≡ partOf p (blockCount (block p) (length first)) s (splitOutput p second (change keys) before′))
+      partOf p (blocksOf p (length first)) s (splitOutput p first keys before)
+      ≡ partOf p (blocksOf p (length first)) s (splitOutput p second (change keys) before′))
       parties
 
 -- for every accepted scheme, every two messages of one accepted length and every choice of at most z parties, none included

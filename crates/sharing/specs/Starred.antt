@@ -10,14 +10,13 @@ use Rattle.lists.specs.Table.{tabulate, flat}
 use Rattle.gf256.specs.Byte.{_⊗_, inverse}
 use Rattle.scheme.specs.Outcome.{accepted, refused}
 use Rattle.scheme.specs.BlockLength.{blockLength}
-use Rattle.scheme.specs.Check.{checked, rowsOfCount, blockCount}
-use Rattle.staircase.specs.Parameters.{Parameters, parameters, block, rows}
+use Rattle.scheme.specs.Check.{checked}
+use Rattle.staircase.specs.Parameters.{Parameters, parameters, block, rows, prefixRows, blocksOf, outputBytes}
 use Rattle.staircase.specs.Rows.{rowsOf}
 use Rattle.staircase.specs.Opening.{blockRow}
 use Rattle.staircase.specs.Shares.{partOf}
 use Rattle.dealer.specs.Split.{splitAnswer, splitOutput}
 use Rattle.reader.specs.Reconstruct.{reconstructAnswer, reconstructOutput}
-use Rattle.sharing.specs.Secrecy.{wanted}
 use Rattle.sharing.specs.RoundTrip.{handed}
 
 -- what stands at a degree of a row, by its place among the block's: a key byte, or a message byte
@@ -61,7 +60,7 @@ Holds (inverse-is a b) = inverse a ≡ b
 Holds (accepts p m b) = checked (p .n) (p .r) (p .z) (p .counts) ≡ accepted (p .n ∷ p .r ∷ p .z ∷ m ∷ b ∷ [])
 Holds (refuses p number) = checked (p .n) (p .r) (p .z) (p .counts) ≡ refused number
 Holds (needs p m) = blockLength (p .z) (p .counts) ≡ m
-Holds (prefix-rows p Ps) = map (rowsOfCount (block p) (p .z)) (p .counts) ≡ Ps
+Holds (prefix-rows p Ps) = map (prefixRows p) (p .counts) ≡ Ps
 -- both ways to tell the rows: listed group by group, and each coefficient by following copies home
 Holds (rows-are p origins) =
     (bytes keys : List ℕ) → length bytes ≡ block p → length keys ≡ rows p * p .z
@@ -72,10 +71,10 @@ Holds (splits p message keys shares bytes) =
     → (splitAnswer p (length message) (length keys) (length before) ≡ accepted (bytes ∷ []))
     × (splitOutput p message keys before ≡ flat shares)
 Holds (gives p message keys s share) =
-    (before : List ℕ) → length before ≡ wanted p (length message)
-    → partOf p (blockCount (block p) (length message)) s (splitOutput p message keys before) ≡ share
+    (before : List ℕ) → length before ≡ outputBytes p (blocksOf p (length message))
+    → partOf p (blocksOf p (length message)) s (splitOutput p message keys before) ≡ share
 Holds (sends p message keys parties prefixes) =
-    (before : List ℕ) → length before ≡ wanted p (length message)
+    (before : List ℕ) → length before ≡ outputBytes p (blocksOf p (length message))
     → handed p (length message) parties (splitOutput p message keys before) ≡ prefixes
 Holds (opens p parties prefixes message used) =
     (before : List ℕ) → length before ≡ length message

@@ -2,10 +2,10 @@
 -- Assumes nothing.
 use mathlib.Core.Path.{_≡_}
 use mathlib.Core.List.{List}
-use Prim.Native.Nat.{ℕ, _≤_}
+use Prim.Native.Nat.{ℕ, _*_, _≤_}
 use Rattle.scheme.specs.Limits.{defaultN, defaultR, defaultZ, defaultCounts}
 use Rattle.scheme.specs.BlockLength.{blockLength}
-use Rattle.scheme.specs.Check.{refusal, rowsOfBlock}
+use Rattle.scheme.specs.Check.{refusal, rowsOfCount, rowsOfBlock, blockCount}
 
 pub record Parameters : Type 0 where
   pub n : ℕ
@@ -21,11 +21,29 @@ block p = blockLength (p .z) (p .counts)
 abbrev pub rows : Parameters → ℕ
 rows p = rowsOfBlock (p .n) (p .r) (p .z) (block p)
 
+-- document 01's P: the rows of a block that a party sends where d parties are read
+abbrev pub prefixRows : Parameters → ℕ → ℕ
+prefixRows p d = rowsOfCount (block p) (p .z) d
+
+-- document 01's N: the blocks of a message of so many bytes
+abbrev pub blocksOf : Parameters → ℕ → ℕ
+blocksOf p message = blockCount (block p) message
+
+-- the bytes that N blocks make: of keys, of a share, of all shares
+abbrev pub keyBytes : Parameters → ℕ → ℕ
+keyBytes p N = N * p .z * rows p
+
+abbrev pub shareBytes : Parameters → ℕ → ℕ
+shareBytes p N = N * rows p
+
+abbrev pub outputBytes : Parameters → ℕ → ℕ
+outputBytes p N = p .n * N * rows p
+
 -- no refusal of the scheme's place applies
 abbrev pub Accepted : Parameters → Type 0
 Accepted p = refusal (p .n) (p .r) (p .z) (p .counts) ≡ 0
 
--- a party's number
+-- a party's number (document 01's site)
 abbrev pub Party : Parameters → ℕ → Type 0
 Party p s = (1 ≤ s) × (s ≤ p .n)
 

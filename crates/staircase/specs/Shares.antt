@@ -5,10 +5,9 @@ use Prim.Native.Nat.{ℕ, _-_, _*_}
 use lib.ListN.{length}
 use Rattle.interpolation.specs.Polynomial.{eval}
 use Rattle.lists.specs.Table.{piece}
-use Rattle.scheme.specs.Check.{blockCount}
 use Rattle.family.specs.Message.{Bytes, padded}
 use Rattle.family.specs.Family.{Family, sharesOfBlocks}
-use Rattle.staircase.specs.Parameters.{Parameters, block, rows, point}
+use Rattle.staircase.specs.Parameters.{Parameters, block, rows, blocksOf, keyBytes, point}
 use Rattle.staircase.specs.Rows.{rowsOf}
 
 -- party s has the value of each row of a block at its point
@@ -23,7 +22,7 @@ staircase p =
 
 -- what the splitter writes for a message and its keys: the shares of parties 1 to n, one after another
 unfoldable pub shares : Parameters → List ℕ → List ℕ → List ℕ
-shares p message keys = sharesOfBlocks (staircase p) (p .n) (blockCount (block p) (length message)) (padded (block p) message) keys
+shares p message keys = sharesOfBlocks (staircase p) (p .n) (blocksOf p (length message)) (padded (block p) message) keys
 
 -- party s's bytes, b × N of them, in what the splitter writes for N blocks
 unfoldable pub partOf : Parameters → ℕ → ℕ → List ℕ → List ℕ
@@ -31,4 +30,4 @@ partOf p N s output = piece (rows p * N) (s - 1) output
 
 -- a key string for a message of so many bytes: any N × z × b bytes
 abbrev pub KeyString : Parameters → ℕ → List ℕ → Type 0
-KeyString p message keys = Bytes (blockCount (block p) message * p .z * rows p) keys
+KeyString p message keys = Bytes (keyBytes p (blocksOf p message)) keys
