@@ -2,7 +2,7 @@
 
 use std::fs;
 use std::path::PathBuf;
-use std::process::{Command, Output};
+use std::process::{Command, Output, Stdio};
 
 /// A folder that is removed at the end.
 struct Folder(PathBuf);
@@ -14,10 +14,15 @@ impl Folder {
         Folder(path)
     }
 
-    /// Runs the program with the words of a line.
+    /// The program with the words of a line. What it says is kept.
+    fn command(&self, line: &str) -> Command {
+        let mut command = Command::new(env!("CARGO_BIN_EXE_sharing"));
+        command.args(line.split(' ')).current_dir(&self.0).stdout(Stdio::piped()).stderr(Stdio::piped());
+        command
+    }
+
     fn run(&self, line: &str) -> Output {
-        let program = env!("CARGO_BIN_EXE_sharing");
-        Command::new(program).args(line.split(' ')).current_dir(&self.0).output().expect("the program runs")
+        self.command(line).output().expect("the program runs")
     }
 
     /// What it says where it succeeds.
@@ -53,6 +58,11 @@ impl Folder {
 
     fn bytes(&self, name: &str) -> Vec<u8> {
         fs::read(self.0.join(name)).expect("a file")
+    }
+
+    /// The five shares in a folder, party after party.
+    fn shares(&self, folder: &str) -> Vec<u8> {
+        (1..=5).flat_map(|party| self.bytes(&format!("{folder}/share-{party}"))).collect()
     }
 
     /// All files, also those in folders within.
@@ -127,10 +137,8 @@ fn the_default_scheme() {
     folder.write("message", 25);
     folder.write("keys", 18);
     folder.says("split message keys shares");
-    let shares: Vec<u8> = (1..=5).flat_map(|party| folder.bytes(&format!("shares/share-{party}"))).collect();
-    let mut expected = vec![0; 90];
-    let answer = gilunavoi::library::split_default(&folder.bytes("message"), &folder.bytes("keys"), &mut expected);
-    assert_eq!((answer, shares), (Ok(18), expected));
+    let expected = expected_shares(&folder.bytes("message"), &folder.bytes("keys"));
+    assert_eq!(folder.shares("shares"), expected);
 }
 
 #[test]
@@ -237,6 +245,36 @@ fn nothing_is_overwritten_or_left_behind() {
     assert!(folder.fails("split message keys message", 1).contains("cannot make the folder message"));
     assert!(folder.fails("split message keys no/folder", 1).contains("cannot make the folder no/folder"));
     assert!(folder.fails("prefix --length 25 --readers 3 keys no/out", 1).contains("no/"));
+}
+
+/// The shares that the default scheme makes of a message, party after party.
+fn expected_shares(message: &[u8], keys: &[u8]) -> Vec<u8> {
+    let mut shares = vec![0; 5 * keys.len()];
+    assert_eq!(gilunavoi::library::split_default(message, keys, &mut shares), Ok(keys.len() as u64));
+    shares
+}
+
+/// Of several runs at once into one folder one succeeds, and what it wrote stays whole.
+#[test]
+fn runs_at_once_into_one_folder() {
+    let folder = Folder::new("at-once");
+    folder.write("keys", 18);
+    let messages = ["a", "b", "c", "d"];
+    for (place, name) in messages.iter().enumerate() {
+        fs::write(folder.0.join(name), vec![place as u8; 25]).expect("a written file");
+    }
+    for round in 0..40 {
+        let shares = format!("shares-{round}");
+        let runs =
+            messages.map(|name| folder.command(&format!("split {name} keys {shares}")).spawn().expect("it runs"));
+        let ends = runs.map(|run| run.wait_with_output().expect("it ends").status.success());
+        let winners: Vec<&str> =
+            messages.into_iter().zip(ends).filter(|(_, well)| *well).map(|(name, _)| name).collect();
+        let [winner] = winners[..] else { panic!("{winners:?} succeeded") };
+        let expected = expected_shares(&folder.bytes(winner), &folder.bytes("keys"));
+        assert_eq!(folder.shares(&shares), expected, "round {round}");
+        assert_eq!(fs::read_dir(folder.0.join(&shares)).expect("a folder").count(), 5, "nothing but the shares");
+    }
 }
 
 /// Runs a line of the shell, in which `$0` is the program, that ends in a failure.

@@ -104,12 +104,17 @@ impl Output {
         written.map_err(|error| failed("write", path, &error))
     }
 
+    /// Links the file to its name. That fails where another run has taken the name since it was looked at, while a
+    /// `rename` would overwrite that run's file.
     fn give_name(&mut self, name: &OsString) -> Result<(), Failure> {
         let (part, path) = (self.part(name), self.folder.join(name));
-        free(&path)?;
-        fs::rename(&part, &path).map_err(|error| failed("write", &path, &error))?;
+        fs::hard_link(&part, &path).map_err(|error| match error.kind() {
+            ErrorKind::AlreadyExists => taken(&path),
+            _ => failed("write", &path, &error),
+        })?;
+        self.made.push(path.clone());
+        fs::remove_file(&part).map_err(|error| failed("write", &path, &error))?;
         self.made.retain(|made| *made != part);
-        self.made.push(path);
         Ok(())
     }
 
@@ -131,9 +136,13 @@ impl Drop for Output {
     }
 }
 
+fn taken(path: &Path) -> Failure {
+    Failure::File(format!("{} exists already, and nothing is overwritten", path.display()))
+}
+
 fn free(path: &Path) -> Result<(), Failure> {
     match fs::symlink_metadata(path) {
-        Ok(_) => Err(Failure::File(format!("{} exists already, and nothing is overwritten", path.display()))),
+        Ok(_) => Err(taken(path)),
         Err(error) if error.kind() == ErrorKind::NotFound => Ok(()),
         Err(error) => Err(failed("write", path, &error)),
     }
