@@ -3,6 +3,7 @@
 use std::fs;
 use std::path::PathBuf;
 use std::process::{Command, Output, Stdio};
+use std::time::Instant;
 
 /// A folder that is removed at the end.
 struct Folder(PathBuf);
@@ -306,6 +307,43 @@ fn a_failure_in_the_middle() {
     let taken = "mkdir shares; : >shares/.share-3.$$.part; exec \"$0\" split message keys shares";
     shell_fails(&folder, taken, "cannot make shares/.share-3.");
     assert_eq!(folder.names().len(), left.len() + 2, "the folder and the file that stood in the way");
+}
+
+extern "C" {
+    fn kill(process: i32, signal: i32) -> i32;
+}
+
+/// Signals at all times of a run: it keeps all shares and says so, or none.
+#[test]
+fn interrupts() {
+    use std::os::unix::process::ExitStatusExt;
+    let folder = Folder::new("interrupts");
+    folder.write("message", 16384);
+    folder.write("keys", 16384);
+    let left = folder.names();
+    let command = || folder.command("split --scheme 16,14,1,2 message keys shares").spawn().expect("it runs");
+    let start = Instant::now();
+    command().wait_with_output().expect("it ends");
+    let whole_run = start.elapsed();
+    let (mut kept, mut cleared) = (0, 0);
+    for round in 0..24 {
+        fs::remove_dir_all(folder.0.join("shares")).ok();
+        let signal = [1, 2, 15][round as usize % 3];
+        let run = command();
+        std::thread::sleep(whole_run * round / 20);
+        assert_eq!(unsafe { kill(run.id() as i32, signal) }, 0);
+        let output = run.wait_with_output().expect("it ends");
+        if output.status.success() {
+            assert!(text(&output.stdout).contains("16 shares"));
+            assert_eq!(folder.names().len(), left.len() + 17, "the folder and the shares");
+            kept += 1;
+        } else {
+            assert_eq!((output.status.signal(), text(&output.stdout)), (Some(signal), String::new()));
+            assert_eq!(folder.names(), left);
+            cleared += text(&output.stderr).contains("interrupted, and nothing is kept") as usize;
+        }
+    }
+    println!("{kept} runs were too fast for the signal, {cleared} removed what they had written");
 }
 
 #[test]

@@ -4,6 +4,7 @@ use crate::arguments::{byte, byte_list, party_and_file, usage, Arguments};
 use crate::failure::Failure;
 use crate::files::{read, Input, Output, LONGEST};
 use crate::help;
+use crate::interrupt;
 use crate::scheme::{Block, Scheme};
 use gilunavoi::library;
 use std::ffi::OsString;
@@ -72,6 +73,8 @@ fn scheme(arguments: &Arguments) -> Done {
 
 /// Tells what was written. Where nobody can be told, it is not kept.
 fn finish(output: Output, text: String) -> Done {
+    // A signal that comes later is too late: the files are announced.
+    interrupt::check()?;
     say(&text)?;
     output.keep();
     Ok(())
@@ -92,8 +95,7 @@ fn split(arguments: &Arguments) -> Done {
     let name = |party: u8| OsString::from(format!("share-{party}"));
     let part = |party: u8| &shares[(party as usize - 1) * share..party as usize * share];
     let files: Vec<(OsString, &[u8])> = (1..=n).map(|party| (name(party), part(party))).collect();
-    let mut output = Output::in_folder(&folder)?;
-    output.write(&files)?;
+    let output = Output::in_folder(&folder, &files)?;
     let told = format!(
         "{n} shares of {share} bytes are in {folder}, share-1 to share-{n}.\n\
          Keep the message's length, {length}: it is needed to open the message, and the shares do not hold it.\n",

@@ -1,5 +1,6 @@
 //! Why a command did not succeed, and the words for it.
 
+use crate::interrupt;
 use std::fmt;
 use std::io::Write;
 use std::process::ExitCode;
@@ -11,6 +12,8 @@ pub enum Failure {
     Refused(u64, String),
     /// A file could not be read or written.
     File(String),
+    /// The signal of this number came while files were being written.
+    Interrupted(i32),
 }
 
 /// The reasons of refusals 1 to 10, in order.
@@ -38,18 +41,22 @@ impl fmt::Display for Failure {
             Failure::Usage(text) => write!(f, "{text}\n(sharing --help says how it is used)"),
             Failure::Refused(number, detail) => write!(f, "refused ({number}): {}\n{detail}", reason(*number)),
             Failure::File(text) => write!(f, "{text}"),
+            Failure::Interrupted(_) => write!(f, "interrupted, and nothing is kept of what was written"),
         }
     }
 }
 
 impl Failure {
-    /// Says on standard error what failed, and gives the program's exit status.
+    /// Says on standard error what failed, and gives the program's exit status. A signal ends the program here.
     pub fn tell(&self) -> ExitCode {
         // Where standard error cannot be written either, the exit status still tells.
         let _ = writeln!(std::io::stderr(), "sharing: {self}");
+        if let Failure::Interrupted(number) = self {
+            interrupt::end(*number);
+        }
         match self {
             Failure::Usage(_) => ExitCode::from(2),
-            Failure::Refused(..) | Failure::File(_) => ExitCode::from(1),
+            _ => ExitCode::from(1),
         }
     }
 }

@@ -1,6 +1,7 @@
 //! Reading files, and writing files that appear together or not at all.
 
 use crate::failure::Failure;
+use crate::interrupt;
 use std::ffi::OsString;
 use std::fmt;
 use std::fs::{self, DirBuilder, File, OpenOptions};
@@ -52,14 +53,21 @@ pub struct Output {
 }
 
 impl Output {
-    /// Into a folder, which is made where it does not exist.
-    pub fn in_folder(folder: &Path) -> Result<Output, Failure> {
-        let new_folder = match DirBuilder::new().mode(0o700).create(folder) {
+    fn new(folder: PathBuf) -> Output {
+        interrupt::hold();
+        Output { folder, new_folder: false, made: Vec::new() }
+    }
+
+    /// Writes files into a folder, which is made where it does not exist.
+    pub fn in_folder(folder: &Path, files: &[(OsString, &[u8])]) -> Result<Output, Failure> {
+        let mut output = Output::new(folder.to_path_buf());
+        output.new_folder = match DirBuilder::new().mode(0o700).create(folder) {
             Ok(()) => true,
             Err(error) if error.kind() == ErrorKind::AlreadyExists && folder.is_dir() => false,
             Err(error) => return Err(failed("make the folder", folder, &error)),
         };
-        Ok(Output { folder: folder.to_path_buf(), new_folder, made: Vec::new() })
+        output.write(files)?;
+        Ok(output)
     }
 
     /// Writes one file, into a folder that exists.
@@ -67,22 +75,23 @@ impl Output {
         let Some(name) = path.file_name() else {
             return Err(Failure::Usage(format!("{} is not the name of a file", path.display())));
         };
-        let folder = path.with_file_name("");
-        let mut output = Output { folder, new_folder: false, made: Vec::new() };
+        let mut output = Output::new(path.with_file_name(""));
         output.write(&[(name.to_os_string(), bytes)])?;
         Ok(output)
     }
 
     /// Writes all files under other names first, and gives them their names only when all are written.
     /// A name that is taken already is seen before anything is written.
-    pub fn write(&mut self, files: &[(OsString, &[u8])]) -> Result<(), Failure> {
+    fn write(&mut self, files: &[(OsString, &[u8])]) -> Result<(), Failure> {
         for (name, _) in files {
             free(&self.folder.join(name))?;
         }
         for (name, bytes) in files {
+            interrupt::check()?;
             self.write_part(&self.part(name), bytes)?;
         }
         for (name, _) in files {
+            interrupt::check()?;
             self.give_name(name)?;
         }
         Ok(())

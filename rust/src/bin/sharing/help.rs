@@ -22,9 +22,12 @@ it is 5,2,1,5,4,3.
 This program never draws keys. They come from a file that you name; draw them evenly at random, keep
 them as secret as the message, use each key file for one message only, and destroy it afterwards.
 
-Files are written whole or not at all, for their owner's eyes only, and none is overwritten.
+Files are written whole or not at all, for their owner's eyes only, and none is overwritten. That holds
+for Ctrl-C and the signals TERM and HUP too. What cannot be caught, such as KILL or a power cut, can
+leave some of the files, and files named .NAME.NUMBER.part: they are as secret as what was to be
+written, and for you to remove.
 The exit status is 0 when all went well, 1 when the input was refused or a file could not be read or
-written, and 2 when the command line cannot be understood.
+written, and 2 when the command line cannot be understood. A signal ends the program as it ends others.
 ";
 
 pub const SCHEME: &str = "\

@@ -7,6 +7,7 @@ mod commands;
 mod failure;
 mod files;
 mod help;
+mod interrupt;
 mod scheme;
 
 use std::process::ExitCode;
