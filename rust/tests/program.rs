@@ -299,9 +299,13 @@ fn a_failure_in_the_middle() {
     shell_fails(&folder, limited, "cannot write shares/.share-1.");
     assert_eq!(folder.names(), left);
 
-    // Nobody learns the message's length where standard output is full, so the shares go again.
-    shell_fails(&folder, "exec \"$0\" split message keys shares >/dev/full", "cannot write to standard output");
-    assert_eq!(folder.names(), left);
+    // Nobody learns the message's length where standard output is full or closed, so the shares go again.
+    for output in ["/dev/full", "&-"] {
+        let line = format!("exec \"$0\" split message keys shares >{output}");
+        shell_fails(&folder, &line, "cannot write to standard output: ");
+        assert_eq!(folder.names(), left);
+    }
+    shell_fails(&folder, "exec \"$0\" --help >&-", "cannot write to standard output: it is closed");
 
     // The third of the names that the program writes under is taken: two files are written before it.
     let taken = "mkdir shares; : >shares/.share-3.$$.part; exec \"$0\" split message keys shares";

@@ -5,10 +5,10 @@ use crate::failure::Failure;
 use crate::files::{read, Input, Output, LONGEST};
 use crate::help;
 use crate::interrupt;
+use crate::report::say;
 use crate::scheme::{Block, Scheme};
 use gilunavoi::library;
 use std::ffi::OsString;
-use std::io::Write;
 
 type Done = Result<(), Failure>;
 
@@ -41,13 +41,6 @@ pub fn run(words: Vec<OsString>) -> Done {
         return say(command.help);
     }
     (command.run)(&Arguments::new(rest, command.options)?)
-}
-
-/// Writes to standard output, where `print!` would end the program if nobody reads.
-fn say(text: &str) -> Done {
-    let mut out = std::io::stdout();
-    let said = out.write_all(text.as_bytes()).and_then(|()| out.flush());
-    said.map_err(|error| Failure::File(format!("cannot write to standard output: {error}")))
 }
 
 fn scheme(arguments: &Arguments) -> Done {

@@ -8,6 +8,7 @@ mod failure;
 mod files;
 mod help;
 mod interrupt;
+mod report;
 mod scheme;
 
 use std::process::ExitCode;
