@@ -188,31 +188,31 @@ fn refusals() {
     for (name, length) in [("message", 25), ("keys", 18), ("short", 17), ("long", 16385), ("endless", 1 << 21)] {
         folder.write(name, length);
     }
-    folder.refuses("split long keys shares", 5, "long has 16385 bytes");
-    folder.refuses("split endless keys shares", 5, "endless has more than 1048576 bytes");
-    folder.refuses("split message short shares", 8, "needs 18 bytes, and short has 17 bytes");
-    folder.refuses("split message endless shares", 8, "needs 18 bytes, and endless has more than 1048576 bytes");
+    folder.refuses("split long keys shares", 5, "\"long\" has 16385 bytes");
+    folder.refuses("split endless keys shares", 5, "\"endless\" has more than 1048576 bytes");
+    folder.refuses("split message short shares", 8, "needs 18 bytes, and \"short\" has 17 bytes");
+    folder.refuses("split message endless shares", 8, "needs 18 bytes, and \"endless\" has more than 1048576 bytes");
     folder.says("split message keys shares");
 
     let huge = usize::MAX;
     folder.refuses(&format!("prefix --length {huge} --readers 4 shares/share-1 out"), 5, &format!("{huge}"));
     folder.refuses("prefix --length 25 --readers 2 shares/share-1 out", 6, "--readers is 2, and the scheme is N 5");
-    folder.refuses("prefix --length 25 --readers 4 short out", 9, "a share has 18 bytes, and short has 17 bytes");
+    folder.refuses("prefix --length 25 --readers 4 short out", 9, "a share has 18 bytes, and \"short\" has 17 bytes");
 
     for party in 1..=5 {
         folder.says(&format!("prefix --length 25 --readers 4 shares/share-{party} p{party}"));
     }
     let all = "1=p1 2=p2 3=p3 4=p4";
     folder.refuses(&format!("reconstruct --length {huge} out {all}"), 5, &format!("{huge}"));
-    folder.refuses("reconstruct --length 25 out 1=p1 2=p2", 6, "2 parties are given");
-    folder.refuses("reconstruct --length 25 out", 6, "0 parties are given");
+    folder.refuses("reconstruct --length 25 out 1=p1 2=p2", 6, "the parties are [1, 2], and");
+    folder.refuses("reconstruct --length 25 out", 6, "the parties are [], and");
     folder.refuses("reconstruct --length 25 out 1=p1 4=p2 3=p3 4=p4", 7, "[1, 3, 4, 4]");
     folder.refuses("reconstruct --length 25 out 0=p1 2=p2 3=p3 4=p4", 7, "[0, 2, 3, 4]");
     folder.refuses("reconstruct --length 25 out 1=p1 2=p2 3=p3 6=p4", 7, "[1, 2, 3, 6]");
     folder.refuses(
         "reconstruct --length 25 out 1=p1 2=shares/share-2 3=p3 4=p4",
         9,
-        "has 12 bytes, and shares/share-2 has 18 bytes",
+        "has 12 bytes, and \"shares/share-2\" has 18 bytes",
     );
 }
 
@@ -223,7 +223,7 @@ fn one_prefix_too_long_and_one_too_short() {
     for (name, length) in [("a", 12), ("b", 13), ("c", 11), ("d", 12)] {
         folder.write(name, length);
     }
-    folder.refuses("reconstruct --length 25 out 1=a 2=b 3=c 4=d", 9, "has 12 bytes, and b has 13 bytes");
+    folder.refuses("reconstruct --length 25 out 1=a 2=b 3=c 4=d", 9, "has 12 bytes, and \"b\" has 13 bytes");
 }
 
 #[test]
@@ -235,17 +235,17 @@ fn nothing_is_overwritten_or_left_behind() {
     folder.write("shares/share-2", 4);
     let before = folder.bytes("shares/share-2");
     let said = folder.fails("split message keys shares", 1);
-    assert!(said.contains("shares/share-2 exists already"), "{said}");
+    assert!(said.contains("\"shares/share-2\" exists already"), "{said}");
     assert_eq!(folder.bytes("shares/share-2"), before);
 
     // A link to nowhere is a name that is taken too.
     std::os::unix::fs::symlink("nowhere", folder.0.join("link")).expect("a link");
     folder.fails("prefix --length 25 --readers 3 keys link", 1);
     let said = folder.fails("prefix --length 25 --readers 3 keys message", 1);
-    assert!(said.contains("message exists already"), "{said}");
-    assert!(folder.fails("split message keys message", 1).contains("cannot make the folder message"));
-    assert!(folder.fails("split message keys no/folder", 1).contains("cannot make the folder no/folder"));
-    assert!(folder.fails("prefix --length 25 --readers 3 keys no/out", 1).contains("no/"));
+    assert!(said.contains("\"message\" exists already"), "{said}");
+    assert!(folder.fails("split message keys message", 1).contains("cannot make the folder \"message\""));
+    assert!(folder.fails("split message keys no/folder", 1).contains("cannot make the folder \"no/folder\""));
+    assert!(folder.fails("prefix --length 25 --readers 3 keys no/out", 1).contains("cannot write \"no/out\": "));
 }
 
 /// The shares that the default scheme makes of a message, party after party.
@@ -296,7 +296,7 @@ fn a_failure_in_the_middle() {
 
     // A share of 8,196 bytes does not fit into a file of at most 8 × 512 bytes.
     let limited = "trap '' XFSZ; ulimit -f 8; exec \"$0\" split message keys shares";
-    shell_fails(&folder, limited, "cannot write shares/.share-1.");
+    shell_fails(&folder, limited, "cannot write \"shares/share-1\": ");
     assert_eq!(folder.names(), left);
 
     // Nobody learns the message's length where standard output is full or closed, so the shares go again.
@@ -309,7 +309,7 @@ fn a_failure_in_the_middle() {
 
     // The third of the names that the program writes under is taken: two files are written before it.
     let taken = "mkdir shares; : >shares/.share-3.$$.part; exec \"$0\" split message keys shares";
-    shell_fails(&folder, taken, "cannot make shares/.share-3.");
+    shell_fails(&folder, taken, "cannot write \"shares/share-3\": \"shares/.share-3.");
     assert_eq!(folder.names().len(), left.len() + 2, "the folder and the file that stood in the way");
 }
 
@@ -354,11 +354,11 @@ fn interrupts() {
 fn unreadable_files() {
     let folder = Folder::new("unreadable");
     folder.write("keys", 18);
-    assert!(folder.fails("split absent keys shares", 1).contains("cannot read absent: "));
-    assert!(folder.fails("split . keys shares", 1).contains("cannot read .: "));
-    assert!(folder.fails("split keys . shares", 1).contains("cannot read .: "));
-    assert!(folder.fails("prefix --length 3 --readers 3 absent out", 1).contains("cannot read absent: "));
-    assert!(folder.fails("reconstruct --length 3 out 1=absent", 1).contains("cannot read absent: "));
+    assert!(folder.fails("split absent keys shares", 1).contains("cannot read \"absent\": "));
+    assert!(folder.fails("split . keys shares", 1).contains("cannot read \".\": "));
+    assert!(folder.fails("split keys . shares", 1).contains("cannot read \".\": "));
+    assert!(folder.fails("prefix --length 3 --readers 3 absent out", 1).contains("cannot read \"absent\": "));
+    assert!(folder.fails("reconstruct --length 3 out 1=absent", 1).contains("cannot read \"absent\": "));
 }
 
 #[test]
@@ -409,6 +409,32 @@ fn bad_usage() {
         assert!(folder.fails(line, 2).contains("sharing --help"), "{line}");
     }
     assert_eq!(Command::new(env!("CARGO_BIN_EXE_sharing")).output().expect("it runs").status.code(), Some(2));
+}
+
+/// Messages that say what to do, and how many.
+#[test]
+fn plain_words() {
+    let folder = Folder::new("words");
+    folder.write("share", 1);
+    for (line, status, words) in [
+        ("split message", 2, "needed are MESSAGE, KEYS, FOLDER, and 1 word was given"),
+        ("split message keys", 2, "and 2 words were given"),
+        ("scheme 300 2 1 5,4,3", 2, "\"300\" is too large: numbers end at 255 here"),
+        ("scheme 5 -2 1 5", 2, "needed is a number, not \"-2\""),
+        (
+            "prefix --length 99999999999999999999999 --readers 3 share out",
+            2,
+            "--length: \"99999999999999999999999\" is too",
+        ),
+        ("prefix --length 1 --readers 3 share out/", 2, "\"out/\" is not the name of a file"),
+        ("prefix --length 1 --readers 3 share out/.", 2, "\"out/.\" is not the name of a file"),
+        ("reconstruct --length 1 out/ 1=share 2=share 3=share", 2, "\"out/\" is not the name of a file"),
+        ("reconstruct --length 1 1=share 2=share 3=share", 2, "OUT is missing: \"1=share\" looks like PARTY=FILE"),
+        ("prefix --length 1 --readers 3 share out", 1, "a share has 6 bytes, and \"share\" has 1 byte\n"),
+    ] {
+        assert!(folder.fails(line, status).contains(words), "{line}");
+    }
+    assert!(folder.says("scheme 2 0 1 2").contains("A block has 1 byte in 1 row, and takes 1 key byte."));
 }
 
 /// File names need not be text.

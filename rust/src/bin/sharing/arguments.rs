@@ -1,9 +1,10 @@
 //! The words of the command line: options, which have a value each, and the words that are left.
 
 use crate::failure::Failure;
+use crate::report::counted;
 use std::ffi::{OsStr, OsString};
 use std::os::unix::ffi::OsStrExt;
-use std::path::PathBuf;
+use std::path::{Path, PathBuf};
 
 pub struct Arguments {
     options: Vec<(String, OsString)>,
@@ -26,7 +27,7 @@ impl Arguments {
             } else if names.contains(&text.as_ref()) {
                 arguments.add_option(text.into_owned(), given.next())?;
             } else if text.starts_with("--") {
-                return usage(format!("there is no option {text} here"));
+                return usage(format!("there is no option {word:?} here"));
             } else {
                 arguments.words.push(word.clone());
             }
@@ -51,33 +52,36 @@ impl Arguments {
 
     /// The number that an option must have.
     pub fn number(&self, name: &str) -> Result<usize, Failure> {
-        let Some(value) = self.option(name) else {
-            return usage(format!("{name} is missing"));
-        };
-        match digits(value).and_then(|text| text.parse().ok()) {
-            Some(number) => Ok(number),
-            None => usage(format!("{name} needs a number, not {}", value.to_string_lossy())),
+        match self.option(name) {
+            Some(value) => number(value, usize::MAX).or_else(|reason| usage(format!("{name}: {reason}"))),
+            None => usage(format!("{name} is missing")),
         }
     }
 
     /// The words, if they are as many as the names.
     pub fn paths<const COUNT: usize>(&self, names: [&str; COUNT]) -> Result<[PathBuf; COUNT], Failure> {
         let paths: Vec<PathBuf> = self.words.iter().map(PathBuf::from).collect();
-        let count = paths.len();
-        paths.try_into().or_else(|_| usage(format!("needed are {}, and {count} words were given", names.join(", "))))
+        let verb = if paths.len() == 1 { "was" } else { "were" };
+        let given = counted(paths.len(), "word");
+        paths.try_into().or_else(|_| usage(format!("needed are {}, and {given} {verb} given", names.join(", "))))
     }
 }
 
-/// The text of a word that is digits alone.
-fn digits(word: &OsStr) -> Option<&str> {
-    word.to_str().filter(|text| text.bytes().all(|byte| byte.is_ascii_digit()))
+fn is_digits(word: &OsStr) -> bool {
+    !word.is_empty() && word.as_bytes().iter().all(u8::is_ascii_digit)
+}
+
+/// A number up to the greatest, or why the word is none.
+fn number(word: &OsStr, greatest: usize) -> Result<usize, String> {
+    if !is_digits(word) {
+        return Err(format!("needed is a number, not {word:?}"));
+    }
+    let number = word.to_string_lossy().parse().ok().filter(|&number| number <= greatest);
+    number.ok_or_else(|| format!("{word:?} is too large: numbers end at {greatest} here"))
 }
 
 pub fn byte(word: &OsStr) -> Result<u8, Failure> {
-    match digits(word).and_then(|text| text.parse().ok()) {
-        Some(number) => Ok(number),
-        None => usage(format!("needed is a number from 0 to 255, not '{}'", word.to_string_lossy())),
-    }
+    number(word, u8::MAX as usize).map(|number| number as u8).or_else(usage)
 }
 
 /// Numbers with commas between them.
@@ -85,13 +89,26 @@ pub fn byte_list(word: &OsStr) -> Result<Vec<u8>, Failure> {
     word.as_bytes().split(|&character| character == b',').map(|part| byte(OsStr::from_bytes(part))).collect()
 }
 
-/// PARTY=FILE.
+/// The two sides of PARTY=FILE.
+fn sides(word: &OsStr) -> Option<(&OsStr, &OsStr)> {
+    let place = word.as_bytes().iter().position(|&character| character == b'=')?;
+    let (party, file) = word.as_bytes().split_at(place);
+    Some((OsStr::from_bytes(party), OsStr::from_bytes(&file[1..])))
+}
+
 pub fn party_and_file(word: &OsStr) -> Result<(u8, PathBuf), Failure> {
-    match word.as_bytes().iter().position(|&character| character == b'=') {
-        Some(place) => {
-            let (party, file) = word.as_bytes().split_at(place);
-            Ok((byte(OsStr::from_bytes(party))?, PathBuf::from(OsStr::from_bytes(&file[1..]))))
-        }
-        None => usage(format!("needed is PARTY=FILE, not '{}'", word.to_string_lossy())),
+    match sides(word) {
+        Some((party, file)) => Ok((byte(party)?, PathBuf::from(file))),
+        None => usage(format!("needed is PARTY=FILE, not {word:?}")),
+    }
+}
+
+/// A file to write, where PARTY=FILE would be one of the words after it.
+pub fn file_before_parties(word: &OsStr) -> Result<&Path, Failure> {
+    match sides(word) {
+        Some((party, _)) if is_digits(party) => usage(format!(
+            "OUT is missing: {word:?} looks like PARTY=FILE; a file of that name may be given with ./ before it"
+        )),
+        _ => Ok(word.as_ref()),
     }
 }

@@ -1,11 +1,11 @@
 //! The four commands.
 
-use crate::arguments::{byte, byte_list, party_and_file, usage, Arguments};
+use crate::arguments::{byte, byte_list, file_before_parties, party_and_file, usage, Arguments};
 use crate::failure::Failure;
-use crate::files::{read, Input, Output, LONGEST};
+use crate::files::{read, Input, Output, Place, LONGEST};
 use crate::help;
 use crate::interrupt;
-use crate::report::say;
+use crate::report::{counted, say};
 use crate::scheme::{Block, Scheme};
 use gilunavoi::library;
 use std::ffi::OsString;
@@ -35,7 +35,7 @@ pub fn run(words: Vec<OsString>) -> Done {
         return say(help::ALL);
     }
     let Some(command) = COMMANDS.iter().find(|command| first == command.name) else {
-        return usage(format!("there is no command {}", first.to_string_lossy()));
+        return usage(format!("there is no command {first:?}"));
     };
     if rest.iter().take_while(|word| *word != "--").any(|word| word == "--help") {
         return say(command.help);
@@ -51,11 +51,11 @@ fn scheme(arguments: &Arguments) -> Done {
     };
     let block = scheme.check()?;
     let mut text = format!(
-        "{scheme}\nA block has {} bytes in {} rows, and takes {} key bytes.\n\
+        "{scheme}\nA block has {} in {}, and takes {}.\n\
          Bytes of a block to fetch:\nparties  from each  in all\n",
-        block.bytes,
-        block.rows,
-        block.keys(block.bytes)
+        counted(block.bytes, "byte"),
+        counted(block.rows, "row"),
+        counted(block.keys(block.bytes), "key byte")
     );
     for d in scheme.counts.iter().map(|&d| d as usize) {
         let bytes = block.prefix_of_block(d);
@@ -82,7 +82,7 @@ fn split(arguments: &Arguments) -> Done {
     let mut shares = vec![0; scheme.n as usize * share];
     let Scheme { n, r, z, ref counts } = scheme;
     library::split(n, r, z, counts, &message.bytes, &keys.bytes, &mut shares).map_err(|number| match number {
-        8 => Failure::Refused(8, format!("it needs {} bytes, and {keys}", block.keys(length))),
+        8 => Failure::Refused(8, format!("it needs {}, and {keys}", counted(block.keys(length), "byte"))),
         _ => Failure::Refused(number, message.to_string()),
     })?;
     let name = |party: u8| OsString::from(format!("share-{party}"));
@@ -90,15 +90,16 @@ fn split(arguments: &Arguments) -> Done {
     let files: Vec<(OsString, &[u8])> = (1..=n).map(|party| (name(party), part(party))).collect();
     let output = Output::in_folder(&folder, &files)?;
     let told = format!(
-        "{n} shares of {share} bytes are in {folder}, share-1 to share-{n}.\n\
+        "{n} shares of {} are in {folder:?}, share-1 to share-{n}.\n\
          Keep the message's length, {length}: it is needed to open the message, and the shares do not hold it.\n",
-        folder = folder.display()
+        counted(share, "byte")
     );
     finish(output, told)
 }
 
 fn prefix(arguments: &Arguments) -> Done {
     let [share, out] = arguments.paths(["SHARE", "OUT"])?;
+    let place = Place::new(&out)?;
     let (length, d) = (arguments.number("--length")?, arguments.number("--readers")?);
     let scheme = Scheme::of(arguments)?;
     let block = scheme.check()?;
@@ -108,13 +109,15 @@ fn prefix(arguments: &Arguments) -> Done {
     let bytes = answer.map_err(|number| {
         let detail = match number {
             6 => format!("--readers is {d}, and the scheme is {scheme}"),
-            9 => format!("a share has {} bytes, and {share}", block.share(length)),
+            9 => format!("a share has {}, and {share}", counted(block.share(length), "byte")),
             _ => format!("--length is {length}"),
         };
         Failure::Refused(number, detail)
     })?;
-    let output = Output::one_file(&out, &share.bytes[..bytes as usize])?;
-    finish(output, format!("The prefix, {bytes} bytes of {}, is in {}.\n", share.bytes.len(), out.display()))
+    let prefix = &share.bytes[..bytes as usize];
+    let output = Output::one_file(&place, prefix)?;
+    let told = format!("The prefix, {} of {}, is in {out:?}.\n", counted(prefix.len(), "byte"), share.bytes.len());
+    finish(output, told)
 }
 
 /// The parties and what they sent, in the order that the library wants: the parties rising.
@@ -135,7 +138,8 @@ fn check_each(block: &Block, length: usize, prefixes: &[(u8, Input)]) -> Done {
     match prefixes.iter().find(|(_, prefix)| prefix.bytes.len() != needed) {
         None => Ok(()),
         Some((_, odd)) => {
-            let detail = format!("a prefix for {d} parties and --length {length} has {needed} bytes, and {odd}");
+            let needed = counted(needed, "byte");
+            let detail = format!("a prefix for {d} parties and --length {length} has {needed}, and {odd}");
             Err(Failure::Refused(9, detail))
         }
     }
@@ -145,6 +149,7 @@ fn reconstruct(arguments: &Arguments) -> Done {
     let Some((out, words)) = arguments.words.split_first() else {
         return usage("needed are OUT and PARTY=FILE, as often as there are parties".to_string());
     };
+    let place = Place::new(file_before_parties(out)?)?;
     let length = arguments.number("--length")?;
     let scheme = Scheme::of(arguments)?;
     let block = scheme.check()?;
@@ -161,13 +166,12 @@ fn reconstruct(arguments: &Arguments) -> Done {
     }
     let used = answer.map_err(|number| {
         let detail = match number {
-            6 => format!("{} parties are given, and the scheme is {scheme}", parties.len()),
-            7 => format!("the parties are {parties:?}, and the scheme is {scheme}"),
+            6 | 7 => format!("the parties are {parties:?}, and the scheme is {scheme}"),
             _ => format!("--length is {length}"),
         };
         Failure::Refused(number, detail)
     })?;
-    let output = Output::one_file(out.as_ref(), &message)?;
-    let (out, d) = (out.to_string_lossy(), parties.len());
-    finish(output, format!("The message, {length} bytes, is in {out}; {used} bytes were fetched from {d} parties.\n"))
+    let output = Output::one_file(&place, &message)?;
+    let (length, d) = (counted(length, "byte"), parties.len());
+    finish(output, format!("The message, {length}, is in {out:?}; {used} bytes were fetched from {d} parties.\n"))
 }

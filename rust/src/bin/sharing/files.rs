@@ -1,11 +1,14 @@
 //! Reading files, and writing files that appear together or not at all.
 
+use crate::arguments::usage;
 use crate::failure::Failure;
 use crate::interrupt;
+use crate::report::counted;
 use std::ffi::OsString;
 use std::fmt;
 use std::fs::{self, DirBuilder, File, OpenOptions};
 use std::io::{self, ErrorKind, Read, Write};
+use std::os::unix::ffi::OsStrExt;
 use std::os::unix::fs::{DirBuilderExt, OpenOptionsExt};
 use std::path::{Path, PathBuf};
 
@@ -31,17 +34,35 @@ pub fn read(path: PathBuf) -> Result<Input, Failure> {
 /// How long it is.
 impl fmt::Display for Input {
     fn fmt(&self, f: &mut fmt::Formatter) -> fmt::Result {
-        let (path, length) = (self.path.display(), self.bytes.len());
+        let (path, length) = (&self.path, self.bytes.len());
         if length > LONGEST {
-            write!(f, "{path} has more than {LONGEST} bytes")
+            write!(f, "{path:?} has more than {}", counted(LONGEST, "byte"))
         } else {
-            write!(f, "{path} has {length} bytes")
+            write!(f, "{path:?} has {}", counted(length, "byte"))
         }
     }
 }
 
 fn failed(action: &str, path: &Path, error: &io::Error) -> Failure {
-    Failure::File(format!("cannot {action} {}: {error}", path.display()))
+    Failure::File(format!("cannot {action} {path:?}: {error}"))
+}
+
+/// Where one file is to be written: a folder that exists, and a name in it.
+pub struct Place {
+    folder: PathBuf,
+    name: OsString,
+}
+
+impl Place {
+    pub fn new(path: &Path) -> Result<Place, Failure> {
+        match path.file_name() {
+            // `out/` and `out/.` have the file name `out` too.
+            Some(name) if path.as_os_str().as_bytes().ends_with(name.as_bytes()) => {
+                Ok(Place { folder: path.with_file_name(""), name: name.to_os_string() })
+            }
+            _ => usage(format!("{path:?} is not the name of a file")),
+        }
+    }
 }
 
 /// Files in one folder. What was made is removed again unless `keep` is reached. Only the owner may
@@ -70,13 +91,9 @@ impl Output {
         Ok(output)
     }
 
-    /// Writes one file, into a folder that exists.
-    pub fn one_file(path: &Path, bytes: &[u8]) -> Result<Output, Failure> {
-        let Some(name) = path.file_name() else {
-            return Err(Failure::Usage(format!("{} is not the name of a file", path.display())));
-        };
-        let mut output = Output::new(path.with_file_name(""));
-        output.write(&[(name.to_os_string(), bytes)])?;
+    pub fn one_file(place: &Place, bytes: &[u8]) -> Result<Output, Failure> {
+        let mut output = Output::new(place.folder.clone());
+        output.write(&[(place.name.clone(), bytes)])?;
         Ok(output)
     }
 
@@ -88,7 +105,7 @@ impl Output {
         }
         for (name, bytes) in files {
             interrupt::check()?;
-            self.write_part(&self.part(name), bytes)?;
+            self.write_part(name, bytes)?;
         }
         for (name, _) in files {
             interrupt::check()?;
@@ -105,12 +122,16 @@ impl Output {
         self.folder.join(part)
     }
 
-    fn write_part(&mut self, path: &Path, bytes: &[u8]) -> Result<(), Failure> {
-        let opened = OpenOptions::new().write(true).create_new(true).mode(0o600).open(path);
-        let mut file = opened.map_err(|error| failed("make", path, &error))?;
-        self.made.push(path.to_path_buf());
+    fn write_part(&mut self, name: &OsString, bytes: &[u8]) -> Result<(), Failure> {
+        let (part, path) = (self.part(name), self.folder.join(name));
+        let opened = OpenOptions::new().write(true).create_new(true).mode(0o600).open(&part);
+        let mut file = opened.map_err(|error| match error.kind() {
+            ErrorKind::AlreadyExists => Failure::File(format!("cannot write {path:?}: {part:?} is in the way")),
+            _ => failed("write", &path, &error),
+        })?;
+        self.made.push(part);
         let written = file.write_all(bytes).and_then(|()| file.sync_all());
-        written.map_err(|error| failed("write", path, &error))
+        written.map_err(|error| failed("write", &path, &error))
     }
 
     /// Links the file to its name. That fails where another run has taken the name since it was looked at, while a
@@ -146,7 +167,7 @@ impl Drop for Output {
 }
 
 fn taken(path: &Path) -> Failure {
-    Failure::File(format!("{} exists already, and nothing is overwritten", path.display()))
+    Failure::File(format!("{path:?} exists already, and nothing is overwritten"))
 }
 
 fn free(path: &Path) -> Result<(), Failure> {

@@ -1,4 +1,4 @@
-//! What is said on standard output.
+//! What is said on standard output, and how numbers are said.
 
 use crate::failure::Failure;
 use std::io::Write;
@@ -30,4 +30,10 @@ pub fn say(text: &str) -> Result<(), Failure> {
         out.write_all(text.as_bytes()).and_then(|()| out.flush()).map_err(|error| error.to_string())
     };
     said.map_err(|reason| Failure::File(format!("cannot write to standard output: {reason}")))
+}
+
+/// A number and what it counts.
+pub fn counted(number: usize, thing: &str) -> String {
+    let ending = if number == 1 { "" } else { "s" };
+    format!("{number} {thing}{ending}")
 }

@@ -32,7 +32,7 @@ impl Scheme {
     fn from_list(word: &OsStr) -> Result<Scheme, Failure> {
         match byte_list(word)?[..] {
             [n, r, z, ref counts @ ..] => Ok(Scheme { n, r, z, counts: counts.to_vec() }),
-            _ => usage(format!("--scheme needs N,R,Z and the counts, not '{}'", word.to_string_lossy())),
+            _ => usage(format!("--scheme needs N,R,Z and the counts, not {word:?}")),
         }
     }
 
