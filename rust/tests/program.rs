@@ -104,7 +104,7 @@ fn round_trip(folder: &Folder, option: &str, length: usize, keys: usize, reading
         let mut line = format!("reconstruct {option}--length {length} opened");
         for party in *parties {
             let d = parties.len();
-            folder.says(&format!("prefix {option}--length {length} --readers {d} shares/share-{party} part-{party}"));
+            folder.says(&format!("prefix {option}--length={length} --readers {d} shares/share-{party} part-{party}"));
             line += &format!(" {party}=part-{party}");
         }
         let sent: usize = parties.iter().map(|party| folder.bytes(&format!("part-{party}")).len()).sum();
@@ -127,7 +127,7 @@ fn round_trips() {
     for (length, keys) in [(100, 54), (0, 0), (12, 6), (16384, 8196)] {
         round_trip(&folder, "", length, keys, &readings);
     }
-    round_trip(&folder, "--scheme 7,3,2,7,5,4 ", 61, 90, &[&[7, 6, 5, 4, 3, 2, 1], &[1, 3, 5, 6, 7], &[2, 4, 6, 7]]);
+    round_trip(&folder, "--scheme=7,3,2,7,5,4 ", 61, 90, &[&[7, 6, 5, 4, 3, 2, 1], &[1, 3, 5, 6, 7], &[2, 4, 6, 7]]);
     assert_eq!(folder.names().len(), 2, "the message and the keys");
 }
 
@@ -164,12 +164,14 @@ fn schemes() {
         4          2       8\n      \
         3          3       9\n";
     assert_eq!(folder.says("scheme 7 4 1 7,4,3"), sheet);
-    assert_eq!(folder.says("scheme"), folder.says("scheme 5 2 1 5,4,3"));
+    assert_eq!(folder.says("scheme 7,4,1,7,4,3"), sheet);
+    assert_eq!(folder.says("scheme"), folder.says("scheme 5 2 1 5 4 3"));
     for (scheme, number) in [
         ("1 0 1 1", 1),
         ("17 2 1 17,15", 1),
         ("5 2 0 5,4,3", 2),
         ("5 255 1 5,4,3", 2),
+        ("5 2 1", 3),
         ("5 2 1 5,4", 3),
         ("5 2 1 4,5,3", 3),
         ("10 4 1 10,9,8,6", 4),
@@ -365,8 +367,10 @@ fn unreadable_files() {
 fn help() {
     let folder = Folder::new("help");
     let all = folder.says("--help");
+    assert_eq!(folder.says("-h"), all);
     for name in ["scheme", "split", "prefix", "reconstruct"] {
         let one = folder.says(&format!("{name} --help"));
+        assert_eq!(folder.says(&format!("{name} -h")), one);
         assert!(one.starts_with(&format!("sharing {name} ")), "{one}");
         assert!(all.contains(&format!("sharing {name} ")), "{all}");
     }
@@ -382,7 +386,7 @@ fn bad_usage() {
         "",
         "help",
         "--version",
-        "scheme 5 2 1",
+        "scheme 5 2",
         "scheme 300 2 1 5,4,3",
         "scheme 5 2 1 5,4,",
         "scheme 5 -2 1 5",
@@ -396,6 +400,9 @@ fn bad_usage() {
         "split --scheme 5,2,1,5 --scheme 5,2,1,5 message keys shares",
         "split message keys shares --scheme",
         "split --length 5 message keys shares",
+        "split --=5 message keys shares",
+        "prefix --length= --readers 3 share out",
+        "prefix --length=25 --length=25 --readers 3 share out",
         "prefix --length 25 share out",
         "prefix --readers 3 share out",
         "prefix --length 25 --readers three share out",

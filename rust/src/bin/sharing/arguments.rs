@@ -1,4 +1,5 @@
-//! The words of the command line: options, which have a value each, and the words that are left.
+//! The words of the command line: options, which have a value each, after `=` or as the next word, and the words that
+//! are left.
 
 use crate::failure::Failure;
 use crate::report::counted;
@@ -7,7 +8,7 @@ use std::os::unix::ffi::OsStrExt;
 use std::path::{Path, PathBuf};
 
 pub struct Arguments {
-    options: Vec<(String, OsString)>,
+    options: Vec<(&'static str, OsString)>,
     pub words: Vec<OsString>,
 }
 
@@ -15,19 +16,26 @@ pub fn usage<T>(text: String) -> Result<T, Failure> {
     Err(Failure::Usage(text))
 }
 
+/// The two sides of NAME=VALUE.
+fn sides(word: &OsStr) -> Option<(&OsStr, &OsStr)> {
+    let mut sides = word.as_bytes().splitn(2, |&character| character == b'=').map(OsStr::from_bytes);
+    Some((sides.next()?, sides.next()?))
+}
+
 impl Arguments {
     /// Sorts the words into options of the given names and others. After `--` all are others.
-    pub fn new(given: &[OsString], names: &[&str]) -> Result<Arguments, Failure> {
+    pub fn new(given: &[OsString], names: &[&'static str]) -> Result<Arguments, Failure> {
         let mut arguments = Arguments { options: Vec::new(), words: Vec::new() };
         let mut given = given.iter();
         while let Some(word) = given.next() {
-            let text = word.to_string_lossy();
-            if text == "--" {
+            if word == "--" {
                 arguments.words.extend(given.by_ref().cloned());
-            } else if names.contains(&text.as_ref()) {
-                arguments.add_option(text.into_owned(), given.next())?;
-            } else if text.starts_with("--") {
-                return usage(format!("there is no option {word:?} here"));
+            } else if word.as_bytes().starts_with(b"--") {
+                let (option, value) = sides(word).map_or((word.as_os_str(), None), |(name, value)| (name, Some(value)));
+                let Some(name) = names.iter().find(|name| option == **name) else {
+                    return usage(format!("there is no option {option:?} here"));
+                };
+                arguments.add_option(name, value.or_else(|| given.next().map(OsString::as_os_str)))?;
             } else {
                 arguments.words.push(word.clone());
             }
@@ -35,19 +43,19 @@ impl Arguments {
         Ok(arguments)
     }
 
-    fn add_option(&mut self, name: String, value: Option<&OsString>) -> Result<(), Failure> {
-        if self.option(&name).is_some() {
+    fn add_option(&mut self, name: &'static str, value: Option<&OsStr>) -> Result<(), Failure> {
+        if self.option(name).is_some() {
             return usage(format!("{name} stands twice"));
         }
         match value {
-            Some(value) => self.options.push((name, value.clone())),
+            Some(value) => self.options.push((name, value.to_os_string())),
             None => return usage(format!("{name} needs a value after it")),
         }
         Ok(())
     }
 
     pub fn option(&self, name: &str) -> Option<&OsStr> {
-        self.options.iter().find(|(other, _)| other == name).map(|(_, value)| value.as_os_str())
+        self.options.iter().find(|(other, _)| *other == name).map(|(_, value)| value.as_os_str())
     }
 
     /// The number that an option must have.
@@ -80,22 +88,16 @@ fn number(word: &OsStr, greatest: usize) -> Result<usize, String> {
     number.ok_or_else(|| format!("{word:?} is too large: numbers end at {greatest} here"))
 }
 
-pub fn byte(word: &OsStr) -> Result<u8, Failure> {
+fn byte(word: &OsStr) -> Result<u8, Failure> {
     number(word, u8::MAX as usize).map(|number| number as u8).or_else(usage)
 }
 
-/// Numbers with commas between them.
+/// Numbers with commas or spaces between them.
 pub fn byte_list(word: &OsStr) -> Result<Vec<u8>, Failure> {
-    word.as_bytes().split(|&character| character == b',').map(|part| byte(OsStr::from_bytes(part))).collect()
+    word.as_bytes().split(|character| b", ".contains(character)).map(|part| byte(OsStr::from_bytes(part))).collect()
 }
 
-/// The two sides of PARTY=FILE.
-fn sides(word: &OsStr) -> Option<(&OsStr, &OsStr)> {
-    let place = word.as_bytes().iter().position(|&character| character == b'=')?;
-    let (party, file) = word.as_bytes().split_at(place);
-    Some((OsStr::from_bytes(party), OsStr::from_bytes(&file[1..])))
-}
-
+/// PARTY=FILE.
 pub fn party_and_file(word: &OsStr) -> Result<(u8, PathBuf), Failure> {
     match sides(word) {
         Some((party, file)) => Ok((byte(party)?, PathBuf::from(file))),

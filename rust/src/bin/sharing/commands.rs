@@ -1,6 +1,6 @@
 //! The four commands.
 
-use crate::arguments::{byte, byte_list, file_before_parties, party_and_file, usage, Arguments};
+use crate::arguments::{file_before_parties, party_and_file, usage, Arguments};
 use crate::failure::Failure;
 use crate::files::{read, Input, Output, Place, LONGEST};
 use crate::help;
@@ -31,24 +31,21 @@ pub fn run(words: Vec<OsString>) -> Done {
     let Some((first, rest)) = words.split_first() else {
         return usage("a command is missing: scheme, split, prefix or reconstruct".to_string());
     };
-    if first == "--help" {
+    let asks_for_help = |word: &OsString| word == "--help" || word == "-h";
+    if asks_for_help(first) {
         return say(help::ALL);
     }
     let Some(command) = COMMANDS.iter().find(|command| first == command.name) else {
         return usage(format!("there is no command {first:?}"));
     };
-    if rest.iter().take_while(|word| *word != "--").any(|word| word == "--help") {
+    if rest.iter().take_while(|word| *word != "--").any(asks_for_help) {
         return say(command.help);
     }
     (command.run)(&Arguments::new(rest, command.options)?)
 }
 
 fn scheme(arguments: &Arguments) -> Done {
-    let scheme = match &arguments.words[..] {
-        [] => Scheme::default(),
-        [n, r, z, counts] => Scheme { n: byte(n)?, r: byte(r)?, z: byte(z)?, counts: byte_list(counts)? },
-        _ => return usage("scheme needs N R Z COUNTS, or nothing".to_string()),
-    };
+    let scheme = Scheme::from_words(arguments.words.iter().map(OsString::as_os_str))?;
     let block = scheme.check()?;
     let mut text = format!(
         "{scheme}\nA block has {} in {}, and takes {}.\n\

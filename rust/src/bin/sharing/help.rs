@@ -3,7 +3,7 @@
 pub const ALL: &str = "\
 sharing splits a message into shares and opens it again from the beginnings of a few of them.
 
-  sharing scheme [N R Z COUNTS]
+  sharing scheme [S]
       says what a scheme costs
   sharing split [--scheme S] MESSAGE KEYS FOLDER
       writes one share a party
@@ -12,12 +12,12 @@ sharing splits a message into shares and opens it again from the beginnings of a
   sharing reconstruct [--scheme S] --length L OUT PARTY=FILE PARTY=FILE ..
       opens the message from what the parties sent
 
-  sharing COMMAND --help says more.
+  sharing COMMAND --help, or -h, says more.
 
 A scheme has N parties. R of them may be absent, and Z may put their shares together and still learn
 nothing but the message's length in blocks. The counts are the numbers of parties at which opening is
 cheap, falling, the last one N - R. S is all of it in a row: N,R,Z and the counts. Without a scheme
-it is 5,2,1,5,4,3.
+it is 5,2,1,5,4,3. The value of an option may also stand behind =, as in --length=33.
 
 This program never draws keys. They come from a file that you name; draw them evenly at random, keep
 them as secret as the message, use each key file for one message only, and destroy it afterwards.
@@ -31,16 +31,18 @@ written, and 2 when the command line cannot be understood. A signal ends the pro
 ";
 
 pub const SCHEME: &str = "\
-sharing scheme N R Z COUNTS
+sharing scheme N,R,Z,D1,D2..
 sharing scheme
 
 Says of a scheme, or of the default one, how long a block is, how many rows it is kept in, how many key
 bytes it takes, and for each count how many bytes of a block each party sends, and all of them together.
 
-  N       how many parties there are, 2 to 16
-  R       how many may be absent
-  Z       how many may put their shares together and learn nothing, at least 1
-  COUNTS  numbers of parties to read from, falling, the last one N - R; as 5,4,3
+  N         how many parties there are, 2 to 16
+  R         how many may be absent
+  Z         how many may put their shares together and learn nothing, at least 1
+  D1,D2..   the counts: numbers of parties to read from, falling, the last one N - R
+
+Spaces may stand for the commas, here and after --scheme.
 ";
 
 pub const SPLIT: &str = "\

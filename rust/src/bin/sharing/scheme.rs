@@ -28,16 +28,18 @@ impl Default for Scheme {
 }
 
 impl Scheme {
-    /// What follows `--scheme`: N,R,Z and the counts.
-    fn from_list(word: &OsStr) -> Result<Scheme, Failure> {
-        match byte_list(word)?[..] {
+    /// N, R, Z and the counts, in one word or in several; the default scheme where there is none.
+    pub fn from_words<'a>(words: impl IntoIterator<Item = &'a OsStr>) -> Result<Scheme, Failure> {
+        let lists = words.into_iter().map(byte_list).collect::<Result<Vec<_>, Failure>>()?;
+        match lists.concat()[..] {
+            [] => Ok(Scheme::default()),
             [n, r, z, ref counts @ ..] => Ok(Scheme { n, r, z, counts: counts.to_vec() }),
-            _ => usage(format!("--scheme needs N,R,Z and the counts, not {word:?}")),
+            _ => usage("a scheme is N, R, Z and the counts".to_string()),
         }
     }
 
     pub fn of(arguments: &Arguments) -> Result<Scheme, Failure> {
-        arguments.option("--scheme").map_or_else(|| Ok(Scheme::default()), Scheme::from_list)
+        Scheme::from_words(arguments.option("--scheme"))
     }
 
     /// Asks the library whether the scheme is accepted.
