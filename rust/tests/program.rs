@@ -46,9 +46,13 @@ impl Folder {
         said
     }
 
+    /// It is refused for the reason that the help has under this number.
     fn refuses(&self, line: &str, number: u64, detail: &str) {
         let said = self.fails(line, 1);
-        assert!(said.starts_with(&format!("sharing: refused ({number}): ")), "{line}: {said}");
+        let reason =
+            said.lines().next().and_then(|first| first.strip_prefix(&format!("sharing: refused ({number}): ")));
+        let reason = reason.unwrap_or_else(|| panic!("{line}: {said}"));
+        assert!(self.says("--help").contains(&format!("\n{number:4}  {reason}\n")), "{line}: {said}");
         assert!(said.contains(detail), "{line}: {said}");
     }
 
@@ -110,6 +114,7 @@ fn round_trip(folder: &Folder, option: &str, length: usize, keys: usize, reading
         let sent: usize = parties.iter().map(|party| folder.bytes(&format!("part-{party}")).len()).sum();
         let said = folder.says(&line);
         assert!(said.contains(&format!(" {sent} bytes were fetched from {} parties", parties.len())), "{said}");
+        assert!(said.contains("\nNothing can tell whether the scheme, "), "{said}");
         assert_eq!(folder.bytes("opened"), folder.bytes("message"));
         fs::remove_file(folder.0.join("opened")).expect("removed");
         for party in *parties {

@@ -33,7 +33,7 @@ pub fn run(words: Vec<OsString>) -> Done {
     };
     let asks_for_help = |word: &OsString| word == "--help" || word == "-h";
     if asks_for_help(first) {
-        return say(help::ALL);
+        return say(&help::all());
     }
     let Some(command) = COMMANDS.iter().find(|command| first == command.name) else {
         return usage(format!("there is no command {first:?}"));
@@ -170,5 +170,9 @@ fn reconstruct(arguments: &Arguments) -> Done {
     })?;
     let output = Output::one_file(&place, &message)?;
     let (length, d) = (counted(length, "byte"), parties.len());
-    finish(output, format!("The message, {length}, is in {out:?}; {used} bytes were fetched from {d} parties.\n"))
+    let told = format!(
+        "The message, {length}, is in {out:?}; {used} bytes were fetched from {d} parties.\n\
+         Nothing can tell whether the scheme, the length, the parties and the prefixes were the right ones.\n"
+    );
+    finish(output, told)
 }

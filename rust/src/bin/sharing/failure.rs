@@ -20,7 +20,7 @@ pub enum Failure {
 const REASONS: [&str; 10] = [
     "the number of parties, N, must be from 2 to 16",
     "the number of colluding parties, Z, must be at least 1, and R + Z must be less than N",
-    "the counts must be 1 to 8 numbers, each less than the one before, the first at most N and the last N - R",
+    "the counts must be 1 to 8 falling numbers, the first at most N and the last N - R",
     "these counts need blocks of more than 840 bytes; take fewer or other counts",
     "the message is longer than 16384 bytes",
     "the number of parties that are read from must be one of the scheme's counts",
@@ -33,6 +33,11 @@ const REASONS: [&str; 10] = [
 fn reason(number: u64) -> &'static str {
     let place = (number as usize).wrapping_sub(1);
     REASONS.get(place).copied().unwrap_or("for a reason that this program does not know")
+}
+
+/// All refusals, a line each.
+pub fn refusals() -> String {
+    (1..).zip(REASONS).map(|(number, reason)| format!("{number:4}  {reason}\n")).collect()
 }
 
 impl fmt::Display for Failure {

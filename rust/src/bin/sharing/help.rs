@@ -1,6 +1,12 @@
 //! What `--help` says.
 
-pub const ALL: &str = "\
+use crate::failure::refusals;
+
+pub fn all() -> String {
+    format!("{ALL}\nInput is refused for the first of these reasons that applies, with its number:\n\n{}", refusals())
+}
+
+const ALL: &str = "\
 sharing splits a message into shares and opens it again from the beginnings of a few of them.
 
   sharing scheme [S]
@@ -23,7 +29,7 @@ This program never draws keys. They come from a file that you name; draw them ev
 them as secret as the message, use each key file for one message only, and destroy it afterwards.
 
 Files are written whole or not at all, for their owner's eyes only, and none is overwritten. That holds
-for Ctrl-C and the signals TERM and HUP too. What cannot be caught, such as KILL or a power cut, can
+on Ctrl-C and on the signals TERM and HUP too. What cannot be caught, such as KILL or a power cut, can
 leave some of the files, and files named .NAME.NUMBER.part: they are as secret as what was to be
 written, and for you to remove.
 The exit status is 0 when all went well, 1 when the input was refused or a file could not be read or
