@@ -1,6 +1,7 @@
-//! The proved library behind safe functions: `library`.
+//! The proved library behind safe functions (`library`), and its limits (`limits`).
 
 pub mod library;
+pub mod limits;
 
 // The rest is no part of the library. It is public because the package's tests and benchmarks, which are crates of
 // their own, use it: an implementation of the same rules that shares no code with the proved one, reproducible inputs,

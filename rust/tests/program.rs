@@ -1,5 +1,6 @@
 //! The program `sharing`, run as its users run it, in a folder of its own.
 
+use gilunavoi::limits::MAX_MESSAGE;
 use std::fs;
 use std::path::PathBuf;
 use std::process::{Command, Output, Stdio};
@@ -129,7 +130,7 @@ fn round_trips() {
     let folder = Folder::new("round");
     // The parties may be named in any order.
     let readings: [&[usize]; 4] = [&[1, 2, 3, 4, 5], &[5, 1, 4, 2], &[2, 4, 5], &[3, 2, 1]];
-    for (length, keys) in [(100, 54), (0, 0), (12, 6), (16384, 8196)] {
+    for (length, keys) in [(100, 54), (0, 0), (12, 6), (MAX_MESSAGE, 8196)] {
         round_trip(&folder, "", length, keys, &readings);
     }
     round_trip(&folder, "--scheme=7,3,2,7,5,4 ", 61, 90, &[&[7, 6, 5, 4, 3, 2, 1], &[1, 3, 5, 6, 7], &[2, 4, 6, 7]]);
@@ -192,10 +193,11 @@ fn schemes() {
 #[test]
 fn refusals() {
     let folder = Folder::new("refusals");
-    for (name, length) in [("message", 25), ("keys", 18), ("short", 17), ("long", 16385), ("endless", 1 << 21)] {
+    let long = MAX_MESSAGE + 1;
+    for (name, length) in [("message", 25), ("keys", 18), ("short", 17), ("long", long), ("endless", 1 << 21)] {
         folder.write(name, length);
     }
-    folder.refuses("split long keys shares", 5, "\"long\" has 16385 bytes");
+    folder.refuses("split long keys shares", 5, &format!("\"long\" has {long} bytes"));
     folder.refuses("split endless keys shares", 5, "\"endless\" has more than 1048576 bytes");
     folder.refuses("split message short shares", 8, "needs 18 bytes, and \"short\" has 17 bytes");
     folder.refuses("split message endless shares", 8, "needs 18 bytes, and \"endless\" has more than 1048576 bytes");
@@ -297,7 +299,7 @@ fn shell_fails(folder: &Folder, line: &str, reason: &str) {
 #[test]
 fn a_failure_in_the_middle() {
     let folder = Folder::new("middle");
-    folder.write("message", 16384);
+    folder.write("message", MAX_MESSAGE);
     folder.write("keys", 8196);
     let left = folder.names();
 
@@ -329,8 +331,8 @@ extern "C" {
 fn interrupts() {
     use std::os::unix::process::ExitStatusExt;
     let folder = Folder::new("interrupts");
-    folder.write("message", 16384);
-    folder.write("keys", 16384);
+    folder.write("message", MAX_MESSAGE);
+    folder.write("keys", MAX_MESSAGE);
     let left = folder.names();
     let command = || folder.command("split --scheme 16,14,1,2 message keys shares").spawn().expect("it runs");
     let start = Instant::now();

@@ -1,6 +1,7 @@
 //! The basis and the opener against the other implementation, and round trips.
 
 use gilunavoi::cases::{all_schemes, length, parties, Call, Scheme};
+use gilunavoi::limits::{MAX_BLOCK, MAX_MESSAGE, MAX_PARTIES};
 use gilunavoi::random::Random;
 use gilunavoi::{compare, library, reference};
 
@@ -8,24 +9,24 @@ use gilunavoi::{compare, library, reference};
 fn the_basis_of_every_list_of_parties() {
     let mut random = Random::new(7);
     let mut lists = 0;
-    for chosen in 0..1u32 << 16 {
-        let parties: Vec<u8> = (1..=16).filter(|i| chosen >> (i - 1) & 1 == 1).collect();
+    for chosen in 0..1u32 << MAX_PARTIES {
+        let parties: Vec<u8> = (1..=MAX_PARTIES).filter(|i| chosen >> (i - 1) & 1 == 1).collect();
         let d = parties.len() as u8;
         // With fewer than two parties no scheme is accepted.
-        if let Some(scheme) = Scheme::new(16, 16 - d.min(16), 1, vec![d]) {
+        if let Some(scheme) = Scheme::new(MAX_PARTIES, MAX_PARTIES - d, 1, vec![d]) {
             assert_eq!(compare::basis(&Call::new(&scheme, 0, parties), &mut random), Ok(()));
             lists += 1;
         }
     }
     println!("{lists} lists");
-    assert_eq!(lists, (1 << 16) - 17);
+    assert_eq!(lists, (1 << MAX_PARTIES) - MAX_PARTIES as usize - 1);
 }
 
 #[test]
 fn bases_of_drawn_schemes() {
     let mut random = Random::new(8);
     for case in 0..10_000 {
-        let scheme = if case % 10 == 0 { Scheme::default() } else { Scheme::drawn(&mut random, 840) };
+        let scheme = if case % 10 == 0 { Scheme::default() } else { Scheme::drawn(&mut random, MAX_BLOCK) };
         let call = Call::drawn(&mut random, &scheme, 0);
         assert_eq!(compare::basis(&call, &mut random), Ok(()));
     }
@@ -54,7 +55,7 @@ fn openings_of_short_blocks() {
 fn openings_of_longer_blocks() {
     openings(11, 6000, 60, 3);
     openings(12, 2000, 120, 3);
-    openings(13, 300, 840, 3);
+    openings(13, 300, MAX_BLOCK, 3);
 }
 
 #[test]
@@ -65,7 +66,7 @@ fn openings_of_the_longest_blocks() {
         let call = Call::new(&scheme, 2000, parties(&mut random, 9, d));
         assert_eq!(compare::reconstruct(&call, &mut random), Ok(()));
     }
-    println!("4 openings of blocks of 840 bytes");
+    println!("4 openings of blocks of {} bytes", scheme.m);
 }
 
 /// A message under drawn keys: its bytes and its shares, one after another.
@@ -126,7 +127,7 @@ fn every_count_and_six_lengths() {
     let (mut cases, mut openings) = (0, 0);
     for (n, r, z, counts) in SCHEMES {
         let scheme = Scheme::new(n, r, z, counts.to_vec()).unwrap();
-        for length in [0, 1, scheme.m - 1, scheme.m, scheme.m + 1, 16384] {
+        for length in [0, 1, scheme.m - 1, scheme.m, scheme.m + 1, MAX_MESSAGE] {
             for &d in counts {
                 let sets = sets_of_parties(&mut random, n, d);
                 let split = split(&Call::new(&scheme, length, sets[0].clone()), &mut random);
@@ -166,8 +167,8 @@ fn longer_messages_come_back_for_every_count() {
     let mut random = Random::new(16);
     let mut openings = 0;
     for case in 0..4000 {
-        let scheme = if case % 10 == 0 { Scheme::default() } else { Scheme::drawn(&mut random, 840) };
-        let length = if case % 10 == 1 { 16384 } else { length(&mut random, scheme.m) };
+        let scheme = if case % 10 == 0 { Scheme::default() } else { Scheme::drawn(&mut random, MAX_BLOCK) };
+        let length = if case % 10 == 1 { MAX_MESSAGE } else { length(&mut random, scheme.m) };
         for &d in &scheme.counts {
             let call = Call::new(&scheme, length, parties(&mut random, scheme.n, d));
             comes_back(&call, &split(&call, &mut random));

@@ -2,12 +2,13 @@
 
 use crate::arguments::{file_before_parties, party_and_file, usage, Arguments};
 use crate::failure::Failure;
-use crate::files::{read, Input, Output, Place, LONGEST};
+use crate::files::{read, Input, Output, Place};
 use crate::help;
 use crate::interrupt;
 use crate::report::{counted, say};
 use crate::scheme::{Block, Scheme};
 use gilunavoi::library;
+use gilunavoi::limits::MAX_MESSAGE;
 use std::ffi::OsString;
 
 type Done = Result<(), Failure>;
@@ -15,16 +16,16 @@ type Done = Result<(), Failure>;
 /// A command's name, its help, the options it knows and what it does.
 struct Command {
     name: &'static str,
-    help: &'static str,
+    help: fn() -> String,
     options: &'static [&'static str],
     run: fn(&Arguments) -> Done,
 }
 
 const COMMANDS: [Command; 4] = [
-    Command { name: "scheme", help: help::SCHEME, options: &[], run: scheme },
-    Command { name: "split", help: help::SPLIT, options: &["--scheme"], run: split },
-    Command { name: "prefix", help: help::PREFIX, options: &["--scheme", "--length", "--readers"], run: prefix },
-    Command { name: "reconstruct", help: help::RECONSTRUCT, options: &["--scheme", "--length"], run: reconstruct },
+    Command { name: "scheme", help: help::scheme, options: &[], run: scheme },
+    Command { name: "split", help: help::split, options: &["--scheme"], run: split },
+    Command { name: "prefix", help: help::prefix, options: &["--scheme", "--length", "--readers"], run: prefix },
+    Command { name: "reconstruct", help: help::reconstruct, options: &["--scheme", "--length"], run: reconstruct },
 ];
 
 pub fn run(words: Vec<OsString>) -> Done {
@@ -39,7 +40,7 @@ pub fn run(words: Vec<OsString>) -> Done {
         return usage(format!("there is no command {first:?}"));
     };
     if rest.iter().take_while(|word| *word != "--").any(asks_for_help) {
-        return say(command.help);
+        return say(&(command.help)());
     }
     (command.run)(&Arguments::new(rest, command.options)?)
 }
@@ -154,7 +155,7 @@ fn reconstruct(arguments: &Arguments) -> Done {
     let (parties, joined): (Vec<u8>, Vec<&[u8]>) =
         prefixes.iter().map(|(party, file)| (*party, &file.bytes[..])).unzip();
     // A longer message is refused before its room is looked at, so that no number asks for too much.
-    let mut message = vec![0; length.min(LONGEST)];
+    let mut message = vec![0; length.min(MAX_MESSAGE)];
     let Scheme { n, r, z, ref counts } = scheme;
     let answer = library::reconstruct(n, r, z, counts, length, &parties, &joined.concat(), &mut message);
     // The library sees the prefixes joined: one too long and one too short by as much would pass there.

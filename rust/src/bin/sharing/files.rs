@@ -14,7 +14,7 @@ use std::path::{Path, PathBuf};
 
 /// No message, key file or share that the library accepts is nearly as long. Reading stops one byte
 /// after it, so that an endless file ends in a refusal too.
-pub const LONGEST: usize = 1 << 20;
+const LONGEST: usize = 1 << 20;
 
 /// A file that was read, cut after `LONGEST` and one.
 pub struct Input {

@@ -3,6 +3,7 @@
 use crate::arguments::{byte_list, usage, Arguments};
 use crate::failure::Failure;
 use gilunavoi::library;
+use gilunavoi::limits::{DEFAULT_COUNTS, DEFAULT_N, DEFAULT_R, DEFAULT_Z};
 use std::ffi::OsStr;
 use std::fmt;
 
@@ -23,7 +24,7 @@ pub struct Block {
 /// The scheme of the library's calls without one.
 impl Default for Scheme {
     fn default() -> Scheme {
-        Scheme { n: 5, r: 2, z: 1, counts: vec![5, 4, 3] }
+        Scheme { n: DEFAULT_N, r: DEFAULT_R, z: DEFAULT_Z, counts: DEFAULT_COUNTS.to_vec() }
     }
 }
 
@@ -42,6 +43,11 @@ impl Scheme {
         Scheme::from_words(arguments.option("--scheme"))
     }
 
+    /// As it is written after `--scheme`.
+    pub fn in_a_row(&self) -> String {
+        in_a_row(&[&[self.n, self.r, self.z], &self.counts[..]].concat())
+    }
+
     /// Asks the library whether the scheme is accepted.
     pub fn check(&self) -> Result<Block, Failure> {
         match library::check(self.n, self.r, self.z, &self.counts) {
@@ -51,10 +57,14 @@ impl Scheme {
     }
 }
 
+/// Numbers with commas between them.
+fn in_a_row(numbers: &[u8]) -> String {
+    numbers.iter().map(u8::to_string).collect::<Vec<_>>().join(",")
+}
+
 impl fmt::Display for Scheme {
     fn fmt(&self, f: &mut fmt::Formatter) -> fmt::Result {
-        let counts: Vec<String> = self.counts.iter().map(u8::to_string).collect();
-        write!(f, "N {}, R {}, Z {}, counts {}", self.n, self.r, self.z, counts.join(","))
+        write!(f, "N {}, R {}, Z {}, counts {}", self.n, self.r, self.z, in_a_row(&self.counts))
     }
 }
 
