@@ -185,7 +185,7 @@ fn schemes() {
         folder.refuses(&format!("scheme {scheme}"), number, "the scheme is N ");
     }
     folder.write("message", 3);
-    folder.refuses("split --scheme 5,2,1 message message shares", 3, "counts ");
+    folder.refuses("split --scheme 5,2,1 message message shares", 3, "Z 1, no counts");
     folder.refuses("prefix --scheme 5,5,1,5 --length 3 --readers 5 message out", 2, "R 5");
     folder.refuses("reconstruct --scheme 0,5,1,5 --length 3 out 1=message", 1, "N 0");
 }

@@ -64,7 +64,11 @@ fn in_a_row(numbers: &[u8]) -> String {
 
 impl fmt::Display for Scheme {
     fn fmt(&self, f: &mut fmt::Formatter) -> fmt::Result {
-        write!(f, "N {}, R {}, Z {}, counts {}", self.n, self.r, self.z, in_a_row(&self.counts))
+        write!(f, "N {}, R {}, Z {}, ", self.n, self.r, self.z)?;
+        match &self.counts[..] {
+            [] => write!(f, "no counts"),
+            counts => write!(f, "counts {}", in_a_row(counts)),
+        }
     }
 }
 
