@@ -43,7 +43,7 @@ static void schemes(void) {
 }
 
 static void one_scheme(void) {
-    const uint8_t two[] = {1, 3}, two_prefixes[] = {11, 3, 29, 13};
+    const uint8_t two[] = {1, 3}, two_prefixes[] = {11, 3, 29, 13}, last_two[] = {2, 3};
     uint8_t out[6], opened[2] = {0, 0};
     sharing_answer a = sharing_split(3, 1, 1, counts, 2, message, 2, keys, 2, out, 6);
     EXPECT(a.refusal == 0 && a.value == 2 && memcmp(out, shares, 6) == 0);
@@ -55,10 +55,10 @@ static void one_scheme(void) {
     EXPECT(a.refusal == 0 && a.value == 4 && memcmp(opened, message, 2) == 0);
     a = sharing_reconstruct(3, 1, 1, counts, 2, 2, two, 2, two_prefixes, 4, opened, 1);
     EXPECT(a.refusal == 10 && a.value == 0);
-    /* (x + 3) / 2 is 1 at 1 and 0 at 3; (x + 1) / 2 the other way round. */
-    sharing_basis_answer basis = sharing_basis(3, 1, 1, counts, 2, two, 2);
-    EXPECT(basis.refusal == 0 && basis.weights[0] == 0x8c && basis.weights[1] == 0x8d && basis.weights[2] == 0);
-    EXPECT(basis.weights[16] == 0x8d && basis.weights[17] == 0x8d && basis.weights[255] == 0);
+    /* x + 3 is 1 at 2 and 0 at 3, x + 2 the other way round. Turned over, the table would be another. */
+    sharing_basis_answer basis = sharing_basis(3, 1, 1, counts, 2, last_two, 2);
+    EXPECT(basis.refusal == 0 && basis.weights[0] == 3 && basis.weights[1] == 1 && basis.weights[2] == 0);
+    EXPECT(basis.weights[16] == 2 && basis.weights[17] == 1 && basis.weights[255] == 0);
 }
 
 static void default_scheme(void) {

@@ -2,6 +2,7 @@
 //! libgfshare where it is installed. All take turns in one process, and of each the best and the median turn are shown.
 
 use gilunavoi::cases::{parties, Call, Scheme};
+use gilunavoi::limits::MAX_MESSAGE;
 use gilunavoi::random::Random;
 use gilunavoi::{library, reference};
 use std::cell::RefCell;
@@ -184,12 +185,13 @@ fn tasks_of_gfshare(_: &mut Random, _: usize) -> Vec<Task> {
 
 fn main() {
     let mut random = Random::new(1);
-    let schemes = [(5, 2, 1, [5, 4, 3]), (7, 4, 1, [7, 4, 3]), (10, 4, 2, [10, 8, 6])];
+    let others = [(7, 4, 1, [7, 4, 3]), (10, 4, 2, [10, 8, 6])];
+    let others = others.map(|(n, r, z, counts)| Scheme::new(n, r, z, counts.to_vec()).expect("an accepted scheme"));
+    let schemes = [&[Scheme::default()], &others[..]].concat();
     let mut all = Vec::new();
-    for length in [1 << 10, 1 << 14] {
-        for (n, r, z, counts) in schemes {
-            let scheme = Scheme::new(n, r, z, counts.to_vec()).expect("an accepted scheme");
-            all.extend(tasks(&mut random, &scheme, length));
+    for length in [1 << 10, MAX_MESSAGE] {
+        for scheme in &schemes {
+            all.extend(tasks(&mut random, scheme, length));
         }
         all.extend(tasks_of_gfshare(&mut random, length));
     }

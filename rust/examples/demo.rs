@@ -2,6 +2,7 @@
 //! prints how few bytes had to be fetched each time.
 
 use gilunavoi::library;
+use gilunavoi::limits::{DEFAULT_N, DEFAULT_R, DEFAULT_Z};
 use std::error::Error;
 use std::fs::File;
 use std::io::{Read, Write};
@@ -30,10 +31,6 @@ With kind regards,
 Margarethe Lindqvist
 ";
 
-/// The default scheme: of 5 parties 2 may be absent, and 1 may spy.
-const PARTIES: usize = 5;
-const COLLUDING: usize = 1;
-
 const READINGS: [&[u8]; 5] = [&[1, 2, 3, 4, 5], &[1, 2, 4, 5], &[1, 2, 3], &[1, 3, 5], &[2, 4, 5]];
 
 /// The office's part: keys that are drawn evenly, and used for this one letter.
@@ -52,8 +49,8 @@ fn split(message: &[u8]) -> Result<(Vec<u8>, usize), Box<dyn Error>> {
     let (block, rows) = library::check_default().map_err(refused)?;
     let blocks = message.len().div_ceil(block as usize);
     let share = blocks * rows as usize;
-    let keys = drawn_keys(COLLUDING * share)?;
-    let mut shares = vec![0; PARTIES * share];
+    let keys = drawn_keys(DEFAULT_Z as usize * share)?;
+    let mut shares = vec![0; DEFAULT_N as usize * share];
     library::split_default(message, &keys, &mut shares).map_err(refused)?;
     Ok((shares, share))
 }
@@ -74,7 +71,8 @@ fn open(shares: &[u8], share: usize, parties: &[u8], message: &mut [u8]) -> Resu
 fn main() -> Result<(), Box<dyn Error>> {
     let (shares, share) = split(LETTER.as_bytes())?;
     let mut out = std::io::stdout().lock();
-    writeln!(out, "A letter of {} bytes is kept by 5 parties: 2 may be absent, 1 may spy.", LETTER.len())?;
+    let parties = format!("{DEFAULT_N} parties: {DEFAULT_R} may be absent, {DEFAULT_Z} may spy");
+    writeln!(out, "A letter of {} bytes is kept by {parties}.", LETTER.len())?;
     writeln!(out, "Each share has {share} bytes, all of them together {}.\n", shares.len())?;
     writeln!(out, "parties    fetched from each  in all")?;
     for parties in READINGS {

@@ -1,5 +1,6 @@
 //! Test inputs that more than one test draws: schemes, and calls that are accepted until something in them is changed.
 
+use crate::limits::*;
 use crate::random::Random;
 use crate::reference;
 
@@ -25,7 +26,7 @@ impl Scheme {
     /// One with blocks of at most `longest` bytes.
     pub fn drawn(random: &mut Random, longest: usize) -> Scheme {
         loop {
-            let n = 2 + random.below(15) as u8;
+            let n = 2 + random.below(MAX_PARTIES as usize - 1) as u8;
             let r = random.below(n as usize) as u8;
             let z = 1 + random.below(n as usize) as u8;
             let low = n - r;
@@ -38,7 +39,7 @@ impl Scheme {
     }
 
     pub fn is_default(&self) -> bool {
-        (self.n, self.r, self.z, &self.counts[..]) == (5, 2, 1, &[5, 4, 3])
+        (self.n, self.r, self.z, &self.counts[..]) == (DEFAULT_N, DEFAULT_R, DEFAULT_Z, &DEFAULT_COUNTS)
     }
 
     /// Changes all but m and b.
@@ -50,13 +51,13 @@ impl Scheme {
 /// The scheme of the forms without one.
 impl Default for Scheme {
     fn default() -> Scheme {
-        Scheme::new(5, 2, 1, vec![5, 4, 3]).expect("an accepted scheme")
+        Scheme::new(DEFAULT_N, DEFAULT_R, DEFAULT_Z, DEFAULT_COUNTS.to_vec()).expect("an accepted scheme")
     }
 }
 
 /// Hands on all accepted sizes n, r and z with every list of counts that falls from at most n to n - r.
 pub fn falling_lists(mut to: impl FnMut(u8, u8, u8, Vec<u8>)) {
-    for n in 2..=16u8 {
+    for n in 2..=MAX_PARTIES {
         for r in 0..n {
             for z in 1..n - r {
                 // Bit i of `chosen`: is n - i a count?
@@ -89,8 +90,11 @@ pub const BAD_COUNTS: [fn(&mut Scheme); 10] = [
     |s| s.counts.last_mut().into_iter().for_each(|last| *last = last.wrapping_sub(1)),
     |s| s.counts.last_mut().into_iter().for_each(|last| *last = last.wrapping_add(1)),
     |s| s.counts.push(s.counts.last().unwrap_or(&s.n).wrapping_sub(1)),
-    // Nine counts, and nothing else: they fall from n to n - r.
-    |s| s.set(16, 8, 7, (8..=16).rev().collect()),
+    // One count too many, and nothing else: they fall from n to n - r.
+    |s| {
+        let low = MAX_PARTIES - MAX_COUNTS as u8;
+        s.set(MAX_PARTIES, MAX_COUNTS as u8, low - 1, (low..=MAX_PARTIES).rev().collect())
+    },
     // Lists that would pass if their length were taken modulo 256, and a long one that falls.
     |s| s.counts.resize(s.counts.len() + 256, 1),
     |s| s.counts = (0..=255).rev().collect(),
@@ -99,7 +103,7 @@ pub const BAD_COUNTS: [fn(&mut Scheme); 10] = [
 /// Lengths around the ends of blocks and of runs of 64 blocks.
 pub fn length(random: &mut Random, m: usize) -> usize {
     let blocks = [0, 1, 2, 3, 63, 64, 65, 130][random.below(8)];
-    (blocks * m + random.below(3)).saturating_sub(1).min(16384)
+    (blocks * m + random.below(3)).saturating_sub(1).min(MAX_MESSAGE)
 }
 
 /// d of the n parties, rising.

@@ -85,9 +85,9 @@ pub fn prefix(call: &Call, random: &mut Random) -> Agreed {
 pub fn basis(call: &Call, _: &mut Random) -> Agreed {
     let s = &call.scheme;
     let expected = reference::basis(s.n, s.r, s.z, &s.counts, &call.parties).map(|rows| {
-        let mut table = [0; 256];
+        let mut table = [0; library::WEIGHTS];
         for (i, row) in rows.iter().enumerate() {
-            table[16 * i..16 * i + row.len()].copy_from_slice(row);
+            table[library::ROW_OF_WEIGHTS * i..][..row.len()].copy_from_slice(row);
         }
         table
     });

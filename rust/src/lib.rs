@@ -1,11 +1,18 @@
-//! The proved library behind safe functions (`library`), an implementation of the same rules that
-//! shares no code with it (`reference`), reproducible test inputs (`random`, `cases`), and calls of both that are held
-//! against each other (`compare`).
+//! The proved library behind safe functions (`library`), and its limits (`limits`).
 
-pub mod cases;
-pub mod compare;
 pub mod library;
+pub mod limits;
+
+// The rest is no part of the library. It is public because the package's tests and benchmarks, which are crates of
+// their own, use it: an implementation of the same rules that shares no code with the proved one, reproducible inputs,
+// and calls of both that are held against each other.
+#[doc(hidden)]
+pub mod cases;
+#[doc(hidden)]
+pub mod compare;
+#[doc(hidden)]
 pub mod random;
+#[doc(hidden)]
 pub mod reference;
 
 /// The README's example is compiled and run with the tests.

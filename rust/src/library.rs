@@ -1,7 +1,15 @@
 //! The proved library, over its C boundary. The wrappers pass every value on as it is: the library
 //! refuses bad input itself. `include/sharing.h` says of each call what it answers and refuses.
 
+use crate::limits::MAX_PARTIES;
+
+/// The room for a basis: as many rows as there may be parties, and a row as many weights.
+pub const WEIGHTS: usize = ROW_OF_WEIGHTS * ROW_OF_WEIGHTS;
+pub const ROW_OF_WEIGHTS: usize = MAX_PARTIES as usize;
+
 mod boundary {
+    use super::WEIGHTS;
+
     #[repr(C)]
     pub struct SharingScheme {
         pub refusal: u64,
@@ -18,7 +26,7 @@ mod boundary {
     #[repr(C)]
     pub struct SharingBasis {
         pub refusal: u64,
-        pub weights: [u8; 256],
+        pub weights: [u8; WEIGHTS],
     }
 
     #[rustfmt::skip]
@@ -143,14 +151,14 @@ pub fn prefix_default(length: usize, d: usize, share: &[u8]) -> Answer {
     answer(unsafe { boundary::sharing_prefix_default(length, d, share.as_ptr(), share.len()) })
 }
 
-/// The weights, row after row of 16, or the number of the refusal.
-pub type Basis = Result<[u8; 256], u64>;
+/// The weights, row after row of `ROW_OF_WEIGHTS`, or the number of the refusal.
+pub type Basis = Result<[u8; WEIGHTS], u64>;
 
 fn basis_answer(answer: boundary::SharingBasis) -> Basis {
     if answer.refusal == 0 {
         Ok(answer.weights)
     } else {
-        assert_eq!(answer.weights, [0; 256], "a refusal comes alone");
+        assert_eq!(answer.weights, [0; WEIGHTS], "a refusal comes alone");
         Err(answer.refusal)
     }
 }

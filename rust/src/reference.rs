@@ -4,6 +4,12 @@
 
 use std::sync::OnceLock;
 
+/// The limits of the rules' document, apart from those that the library's users are told.
+const MOST_PARTIES: i32 = 16;
+const MOST_COUNTS: usize = 8;
+const LONGEST_BLOCK: u64 = 840;
+const LONGEST_MESSAGE: usize = 16384;
+
 /// The product of the two bit polynomials, reduced by x^8 + x^4 + x^3 + x + 1.
 fn bitwise_product(a: u8, b: u8) -> u8 {
     let mut product: u16 = 0;
@@ -46,7 +52,7 @@ fn gcd(a: u64, b: u64) -> u64 {
 /// The check of a scheme: the block length and the rows of a block, or the first refusal.
 pub fn check(n: u8, r: u8, z: u8, counts: &[u8]) -> Result<(u64, u64), u64> {
     let (n, r, z) = (n as i32, r as i32, z as i32);
-    if !(2..=16).contains(&n) {
+    if !(2..=MOST_PARTIES).contains(&n) {
         return Err(1);
     }
     if z == 0 || r + z >= n {
@@ -56,14 +62,14 @@ pub fn check(n: u8, r: u8, z: u8, counts: &[u8]) -> Result<(u64, u64), u64> {
     let (Some(&first), Some(&last)) = (counts.first(), counts.last()) else {
         return Err(3);
     };
-    if counts.len() > 8 || !falls || first as i32 > n || last as i32 != n - r {
+    if counts.len() > MOST_COUNTS || !falls || first as i32 > n || last as i32 != n - r {
         return Err(3);
     }
     let m = counts.iter().fold(1, |m, &d| {
         let step = (d as i32 - z) as u64;
         m / gcd(m, step) * step
     });
-    if m > 840 {
+    if m > LONGEST_BLOCK {
         return Err(4);
     }
     Ok((m, m / (n - r - z) as u64))
@@ -126,7 +132,7 @@ fn sizes(n: u8, r: u8, z: u8, counts: &[u8], length: usize) -> (usize, usize, us
 /// The shares of all parties, one after another.
 pub fn split(n: u8, r: u8, z: u8, counts: &[u8], message: &[u8], keys: &[u8], out: usize) -> Result<Vec<u8>, u64> {
     check(n, r, z, counts)?;
-    first_refusal(&[(message.len() > 16384, 5)])?;
+    first_refusal(&[(message.len() > LONGEST_MESSAGE, 5)])?;
     let (blocks, m, b) = sizes(n, r, z, counts, message.len());
     let z = z as usize;
     first_refusal(&[(keys.len() != blocks * z * b, 8), (out != n as usize * blocks * b, 10)])?;
@@ -148,7 +154,7 @@ pub fn split(n: u8, r: u8, z: u8, counts: &[u8], message: &[u8], keys: &[u8], ou
 /// The length of a prefix.
 pub fn prefix(n: u8, r: u8, z: u8, counts: &[u8], length: usize, d: usize, share: usize) -> Result<u64, u64> {
     check(n, r, z, counts)?;
-    first_refusal(&[(length > 16384, 5), (!is_count(counts, d), 6)])?;
+    first_refusal(&[(length > LONGEST_MESSAGE, 5), (!is_count(counts, d), 6)])?;
     let (blocks, m, b) = sizes(n, r, z, counts, length);
     first_refusal(&[(share != blocks * b, 9)])?;
     Ok((m / (d - z as usize) * blocks) as u64)
@@ -235,7 +241,7 @@ pub fn reconstruct(
 ) -> Result<(u64, Vec<u8>), u64> {
     check(n, r, z, counts)?;
     let d = parties.len();
-    first_refusal(&[(length > 16384, 5), (!is_count(counts, d), 6), (parties_are_bad(n, parties), 7)])?;
+    first_refusal(&[(length > LONGEST_MESSAGE, 5), (!is_count(counts, d), 6), (parties_are_bad(n, parties), 7)])?;
     let (blocks, m, _) = sizes(n, r, z, counts, length);
     let used = d * (m / (d - z as usize)) * blocks;
     first_refusal(&[(prefixes.len() != used, 9), (out != length, 10)])?;

@@ -3,6 +3,7 @@
 
 use gilunavoi::cases::{Call, Scheme, BAD_COUNTS};
 use gilunavoi::compare::{self, Compare};
+use gilunavoi::limits::{MAX_MESSAGE, MAX_PARTIES};
 use gilunavoi::random::Random;
 
 /// The refusal that a change of an accepted scheme or call leads to, and the change.
@@ -12,7 +13,7 @@ type Fault = (u64, fn(&mut Call));
 const SIZES: [SchemeFault; 10] = [
     (1, |s| s.n = 0),
     (1, |s| s.n = 1),
-    (1, |s| s.n = 17),
+    (1, |s| s.n = MAX_PARTIES + 1),
     (1, |s| s.n = 255),
     (2, |s| s.z = 0),
     (2, |s| s.z = s.n - s.r),
@@ -23,7 +24,7 @@ const SIZES: [SchemeFault; 10] = [
     (2, |s| s.r = 0u8.wrapping_sub(s.z)),
 ];
 
-/// The smallest m above 840, the rules' own example, and the greatest m of all.
+/// The smallest m above the limit, the rules' own example, and the greatest m of all.
 const BLOCKS: [SchemeFault; 3] = [
     (4, |s| s.set(14, 7, 1, vec![14, 12, 7])),
     (4, |s| s.set(10, 4, 1, vec![10, 9, 8, 6])),
@@ -32,15 +33,15 @@ const BLOCKS: [SchemeFault; 3] = [
 
 /// Lengths of a message that is there. Some would pass modulo 2^16.
 const MESSAGES: [Fault; 4] = [
-    (5, |c| c.length = 16385),
-    (5, |c| c.length = 16384 + c.scheme.m),
+    (5, |c| c.length = MAX_MESSAGE + 1),
+    (5, |c| c.length = MAX_MESSAGE + c.scheme.m),
     (5, |c| c.length = 1 << 16),
     (5, |c| c.length += 1 << 16),
 ];
 
 /// Lengths that are only told. Some would pass modulo 2^32, or if the blocks were counted modulo 2^64.
 const LENGTHS: [Fault; 7] = [
-    (5, |c| c.length = 16385),
+    (5, |c| c.length = MAX_MESSAGE + 1),
     (5, |c| c.length += 1 << 16),
     (5, |c| c.length += 1 << 32),
     (5, |c| c.length += 1 << 63),

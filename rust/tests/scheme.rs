@@ -2,6 +2,8 @@
 
 use gilunavoi::cases::{falling_lists, Scheme, BAD_COUNTS};
 use gilunavoi::compare::check;
+use gilunavoi::library;
+use gilunavoi::limits::*;
 use gilunavoi::random::Random;
 
 /// Counts of how many schemes were checked and accepted.
@@ -71,6 +73,21 @@ fn drawn_bytes_and_long_lists() {
     }
     println!("{tally:?}");
     assert!(tally.accepted < tally.schemes / 2);
+}
+
+/// The constants are where the library draws its lines.
+#[test]
+fn the_limits() {
+    let (n, many) = (MAX_PARTIES, MAX_COUNTS as u8);
+    // As many parties, as many counts and as long a block as there may be.
+    let counts: Vec<u8> = (n - many + 1..=n).rev().collect();
+    assert_eq!(library::check(n, many - 1, many, &counts), Ok((MAX_BLOCK as u64, MAX_BLOCK as u64)));
+    assert_eq!(library::check(n + 1, 1, 1, &[n]), Err(1));
+    let one_more: Vec<u8> = (n - many..=n).rev().collect();
+    assert_eq!(library::check(n, many, many - 1, &one_more), Err(3));
+    for (length, answer) in [(MAX_MESSAGE, Err(9)), (MAX_MESSAGE + 1, Err(5))] {
+        assert_eq!(library::prefix_default(length, 3, &[]), answer);
+    }
 }
 
 #[test]

@@ -2,14 +2,15 @@
 
 use gilunavoi::cases::{all_schemes, length, Call, Scheme};
 use gilunavoi::compare;
+use gilunavoi::limits::{MAX_BLOCK, MAX_MESSAGE, MAX_PARTIES};
 use gilunavoi::random::Random;
 
 #[test]
 fn shares_of_drawn_schemes() {
     let mut random = Random::new(3);
     for case in 0..6000 {
-        let scheme = Scheme::drawn(&mut random, 840);
-        let length = if case % 100 == 0 { 16384 - random.below(2) } else { length(&mut random, scheme.m) };
+        let scheme = Scheme::drawn(&mut random, MAX_BLOCK);
+        let length = if case % 100 == 0 { MAX_MESSAGE - random.below(2) } else { length(&mut random, scheme.m) };
         let call = Call::drawn(&mut random, &scheme, length);
         assert_eq!(compare::split(&call, &mut random), Ok(()));
     }
@@ -38,7 +39,7 @@ fn every_prefix_of_every_scheme() {
     for scheme in all_schemes() {
         let length = random.below(3 * scheme.m + 1);
         let mut call = Call::drawn(&mut random, &scheme, length);
-        for d in 0..=17 {
+        for d in 0..=MAX_PARTIES as usize + 1 {
             call.d = d;
             calls += 1;
             accepted += compare::prefix(&call, &mut random).is_ok() as usize;
@@ -51,7 +52,8 @@ fn every_prefix_of_every_scheme() {
 #[test]
 fn the_default_scheme() {
     let mut random = Random::new(6);
-    let lengths: Vec<usize> = (0..=100).chain(760..=780).chain([1535, 1536, 1537, 16380, 16383, 16384]).collect();
+    let ends = [1535, 1536, 1537, MAX_MESSAGE - 4, MAX_MESSAGE - 1, MAX_MESSAGE];
+    let lengths: Vec<usize> = (0..=100).chain(760..=780).chain(ends).collect();
     for &length in &lengths {
         let mut call = Call::drawn(&mut random, &Scheme::default(), length);
         assert_eq!(compare::split(&call, &mut random), Ok(()));

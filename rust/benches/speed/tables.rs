@@ -2,6 +2,7 @@
 //! and logarithms of 3. What depends on the scheme and the parties alone is worked out beforehand.
 
 use gilunavoi::cases::Scheme;
+use gilunavoi::limits::MAX_PARTIES;
 use gilunavoi::reference;
 
 struct Products {
@@ -60,7 +61,7 @@ impl Tables {
     pub fn split(&self, message: &[u8], keys: &[u8], out: &mut [u8]) {
         let (z, m, b) = (self.scheme.z as usize, self.scheme.m, self.scheme.b);
         let blocks = message.len().div_ceil(m);
-        let mut coefficients = Vec::with_capacity(16);
+        let mut coefficients = Vec::with_capacity(MAX_PARTIES as usize);
         for t in 0..blocks {
             for (j, places) in self.places.iter().enumerate() {
                 coefficients.clear();
@@ -79,7 +80,7 @@ impl Tables {
         let blocks = out.len().div_ceil(m);
         let rows = m / (d - z);
         let mut work = vec![0; m];
-        let (mut coefficients, mut rests) = ([0; 16], [0; 16]);
+        let (mut coefficients, mut rests) = ([0; MAX_PARTIES as usize], [0; MAX_PARTIES as usize]);
         for t in 0..blocks {
             for (j, places) in self.places[..rows].iter().enumerate().rev() {
                 for (e, &place) in places.iter().enumerate().skip(d - z) {

@@ -1,12 +1,14 @@
-//! The words of the command line: options, which have a value each, and the words that are left.
+//! The words of the command line: options, which have a value each, after `=` or as the next word, and the words that
+//! are left.
 
 use crate::failure::Failure;
+use crate::report::counted;
 use std::ffi::{OsStr, OsString};
 use std::os::unix::ffi::OsStrExt;
-use std::path::PathBuf;
+use std::path::{Path, PathBuf};
 
 pub struct Arguments {
-    options: Vec<(String, OsString)>,
+    options: Vec<(&'static str, OsString)>,
     pub words: Vec<OsString>,
 }
 
@@ -14,19 +16,26 @@ pub fn usage<T>(text: String) -> Result<T, Failure> {
     Err(Failure::Usage(text))
 }
 
+/// The two sides of NAME=VALUE.
+fn sides(word: &OsStr) -> Option<(&OsStr, &OsStr)> {
+    let mut sides = word.as_bytes().splitn(2, |&character| character == b'=').map(OsStr::from_bytes);
+    Some((sides.next()?, sides.next()?))
+}
+
 impl Arguments {
     /// Sorts the words into options of the given names and others. After `--` all are others.
-    pub fn new(given: &[OsString], names: &[&str]) -> Result<Arguments, Failure> {
+    pub fn new(given: &[OsString], names: &[&'static str]) -> Result<Arguments, Failure> {
         let mut arguments = Arguments { options: Vec::new(), words: Vec::new() };
         let mut given = given.iter();
         while let Some(word) = given.next() {
-            let text = word.to_string_lossy();
-            if text == "--" {
+            if word == "--" {
                 arguments.words.extend(given.by_ref().cloned());
-            } else if names.contains(&text.as_ref()) {
-                arguments.add_option(text.into_owned(), given.next())?;
-            } else if text.starts_with("--") {
-                return usage(format!("there is no option {text} here"));
+            } else if word.as_bytes().starts_with(b"--") {
+                let (option, value) = sides(word).map_or((word.as_os_str(), None), |(name, value)| (name, Some(value)));
+                let Some(name) = names.iter().find(|name| option == **name) else {
+                    return usage(format!("there is no option {option:?} here"));
+                };
+                arguments.add_option(name, value.or_else(|| given.next().map(OsString::as_os_str)))?;
             } else {
                 arguments.words.push(word.clone());
             }
@@ -34,64 +43,74 @@ impl Arguments {
         Ok(arguments)
     }
 
-    fn add_option(&mut self, name: String, value: Option<&OsString>) -> Result<(), Failure> {
-        if self.option(&name).is_some() {
+    fn add_option(&mut self, name: &'static str, value: Option<&OsStr>) -> Result<(), Failure> {
+        if self.option(name).is_some() {
             return usage(format!("{name} stands twice"));
         }
         match value {
-            Some(value) => self.options.push((name, value.clone())),
+            Some(value) => self.options.push((name, value.to_os_string())),
             None => return usage(format!("{name} needs a value after it")),
         }
         Ok(())
     }
 
     pub fn option(&self, name: &str) -> Option<&OsStr> {
-        self.options.iter().find(|(other, _)| other == name).map(|(_, value)| value.as_os_str())
+        self.options.iter().find(|(other, _)| *other == name).map(|(_, value)| value.as_os_str())
     }
 
     /// The number that an option must have.
     pub fn number(&self, name: &str) -> Result<usize, Failure> {
-        let Some(value) = self.option(name) else {
-            return usage(format!("{name} is missing"));
-        };
-        match digits(value).and_then(|text| text.parse().ok()) {
-            Some(number) => Ok(number),
-            None => usage(format!("{name} needs a number, not {}", value.to_string_lossy())),
+        match self.option(name) {
+            Some(value) => number(value, usize::MAX).or_else(|reason| usage(format!("{name}: {reason}"))),
+            None => usage(format!("{name} is missing")),
         }
     }
 
     /// The words, if they are as many as the names.
     pub fn paths<const COUNT: usize>(&self, names: [&str; COUNT]) -> Result<[PathBuf; COUNT], Failure> {
         let paths: Vec<PathBuf> = self.words.iter().map(PathBuf::from).collect();
-        let count = paths.len();
-        paths.try_into().or_else(|_| usage(format!("needed are {}, and {count} words were given", names.join(", "))))
+        let verb = if paths.len() == 1 { "was" } else { "were" };
+        let given = counted(paths.len(), "word");
+        paths.try_into().or_else(|_| usage(format!("needed are {}, and {given} {verb} given", names.join(", "))))
     }
 }
 
-/// The text of a word that is digits alone.
-fn digits(word: &OsStr) -> Option<&str> {
-    word.to_str().filter(|text| text.bytes().all(|byte| byte.is_ascii_digit()))
+fn is_digits(word: &OsStr) -> bool {
+    !word.is_empty() && word.as_bytes().iter().all(u8::is_ascii_digit)
 }
 
-pub fn byte(word: &OsStr) -> Result<u8, Failure> {
-    match digits(word).and_then(|text| text.parse().ok()) {
-        Some(number) => Ok(number),
-        None => usage(format!("needed is a number from 0 to 255, not '{}'", word.to_string_lossy())),
+/// A number up to the greatest, or why the word is none.
+fn number(word: &OsStr, greatest: usize) -> Result<usize, String> {
+    if !is_digits(word) {
+        return Err(format!("needed is a number, not {word:?}"));
     }
+    let number = word.to_string_lossy().parse().ok().filter(|&number| number <= greatest);
+    number.ok_or_else(|| format!("{word:?} is too large: numbers end at {greatest} here"))
 }
 
-/// Numbers with commas between them.
+fn byte(word: &OsStr) -> Result<u8, Failure> {
+    number(word, u8::MAX as usize).map(|number| number as u8).or_else(usage)
+}
+
+/// Numbers with commas or spaces between them.
 pub fn byte_list(word: &OsStr) -> Result<Vec<u8>, Failure> {
-    word.as_bytes().split(|&character| character == b',').map(|part| byte(OsStr::from_bytes(part))).collect()
+    word.as_bytes().split(|character| b", ".contains(character)).map(|part| byte(OsStr::from_bytes(part))).collect()
 }
 
 /// PARTY=FILE.
 pub fn party_and_file(word: &OsStr) -> Result<(u8, PathBuf), Failure> {
-    match word.as_bytes().iter().position(|&character| character == b'=') {
-        Some(place) => {
-            let (party, file) = word.as_bytes().split_at(place);
-            Ok((byte(OsStr::from_bytes(party))?, PathBuf::from(OsStr::from_bytes(&file[1..]))))
-        }
-        None => usage(format!("needed is PARTY=FILE, not '{}'", word.to_string_lossy())),
+    match sides(word) {
+        Some((party, file)) => Ok((byte(party)?, PathBuf::from(file))),
+        None => usage(format!("needed is PARTY=FILE, not {word:?}")),
+    }
+}
+
+/// A file to write, where PARTY=FILE would be one of the words after it.
+pub fn file_before_parties(word: &OsStr) -> Result<&Path, Failure> {
+    match sides(word) {
+        Some((party, _)) if is_digits(party) => usage(format!(
+            "OUT is missing: {word:?} looks like PARTY=FILE; a file of that name may be given with ./ before it"
+        )),
+        _ => Ok(word.as_ref()),
     }
 }

@@ -1,5 +1,7 @@
 //! Why a command did not succeed, and the words for it.
 
+use crate::interrupt;
+use gilunavoi::limits::{MAX_BLOCK, MAX_COUNTS, MAX_MESSAGE, MAX_PARTIES};
 use std::fmt;
 use std::io::Write;
 use std::process::ExitCode;
@@ -11,25 +13,30 @@ pub enum Failure {
     Refused(u64, String),
     /// A file could not be read or written.
     File(String),
+    /// The signal of this number came while files were being written.
+    Interrupted(i32),
 }
 
-/// The reasons of refusals 1 to 10, in order.
-const REASONS: [&str; 10] = [
-    "the number of parties, N, must be from 2 to 16",
-    "the number of colluding parties, Z, must be at least 1, and R + Z must be less than N",
-    "the counts must be 1 to 8 numbers, each less than the one before, the first at most N and the last N - R",
-    "these counts need blocks of more than 840 bytes; take fewer or other counts",
-    "the message is longer than 16384 bytes",
-    "the number of parties that are read from must be one of the scheme's counts",
-    "the parties must be different numbers from 1 to N",
-    "the key file has another length than this message needs",
-    "a share or prefix has another length than this scheme and message length give",
-    "the room for the result has another length than the result",
-];
+/// The numbers and reasons of all refusals.
+pub fn refusals() -> impl Iterator<Item = (u64, String)> {
+    let reasons = [
+        format!("the number of parties, N, must be from 2 to {MAX_PARTIES}"),
+        "the number of colluding parties, Z, must be at least 1, and R + Z must be less than N".to_string(),
+        format!("the counts must be 1 to {MAX_COUNTS} falling numbers, the first at most N and the last N - R"),
+        format!("these counts need blocks of more than {MAX_BLOCK} bytes; take fewer or other counts"),
+        format!("the message is longer than {MAX_MESSAGE} bytes"),
+        "the number of parties that are read from must be one of the scheme's counts".to_string(),
+        "the parties must be different numbers from 1 to N".to_string(),
+        "the key file has another length than this message needs".to_string(),
+        "a share or prefix has another length than this scheme and message length give".to_string(),
+        "the room for the result has another length than the result".to_string(),
+    ];
+    (1..).zip(reasons)
+}
 
-fn reason(number: u64) -> &'static str {
-    let place = (number as usize).wrapping_sub(1);
-    REASONS.get(place).copied().unwrap_or("for a reason that this program does not know")
+fn reason(number: u64) -> String {
+    let known = refusals().find(|(other, _)| *other == number);
+    known.map_or("for a reason that this program does not know".to_string(), |(_, reason)| reason)
 }
 
 impl fmt::Display for Failure {
@@ -38,18 +45,22 @@ impl fmt::Display for Failure {
             Failure::Usage(text) => write!(f, "{text}\n(sharing --help says how it is used)"),
             Failure::Refused(number, detail) => write!(f, "refused ({number}): {}\n{detail}", reason(*number)),
             Failure::File(text) => write!(f, "{text}"),
+            Failure::Interrupted(_) => write!(f, "interrupted, and nothing is kept of what was written"),
         }
     }
 }
 
 impl Failure {
-    /// Says on standard error what failed, and gives the program's exit status.
+    /// Says on standard error what failed, and gives the program's exit status. A signal ends the program here.
     pub fn tell(&self) -> ExitCode {
         // Where standard error cannot be written either, the exit status still tells.
         let _ = writeln!(std::io::stderr(), "sharing: {self}");
+        if let Failure::Interrupted(number) = self {
+            interrupt::end(*number);
+        }
         match self {
             Failure::Usage(_) => ExitCode::from(2),
-            Failure::Refused(..) | Failure::File(_) => ExitCode::from(1),
+            _ => ExitCode::from(1),
         }
     }
 }

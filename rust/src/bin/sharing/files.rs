@@ -1,16 +1,20 @@
 //! Reading files, and writing files that appear together or not at all.
 
+use crate::arguments::usage;
 use crate::failure::Failure;
+use crate::interrupt;
+use crate::report::counted;
 use std::ffi::OsString;
 use std::fmt;
 use std::fs::{self, DirBuilder, File, OpenOptions};
 use std::io::{self, ErrorKind, Read, Write};
+use std::os::unix::ffi::OsStrExt;
 use std::os::unix::fs::{DirBuilderExt, OpenOptionsExt};
 use std::path::{Path, PathBuf};
 
 /// No message, key file or share that the library accepts is nearly as long. Reading stops one byte
 /// after it, so that an endless file ends in a refusal too.
-pub const LONGEST: usize = 1 << 20;
+const LONGEST: usize = 1 << 20;
 
 /// A file that was read, cut after `LONGEST` and one.
 pub struct Input {
@@ -30,17 +34,35 @@ pub fn read(path: PathBuf) -> Result<Input, Failure> {
 /// How long it is.
 impl fmt::Display for Input {
     fn fmt(&self, f: &mut fmt::Formatter) -> fmt::Result {
-        let (path, length) = (self.path.display(), self.bytes.len());
+        let (path, length) = (&self.path, self.bytes.len());
         if length > LONGEST {
-            write!(f, "{path} has more than {LONGEST} bytes")
+            write!(f, "{path:?} has more than {}", counted(LONGEST, "byte"))
         } else {
-            write!(f, "{path} has {length} bytes")
+            write!(f, "{path:?} has {}", counted(length, "byte"))
         }
     }
 }
 
 fn failed(action: &str, path: &Path, error: &io::Error) -> Failure {
-    Failure::File(format!("cannot {action} {}: {error}", path.display()))
+    Failure::File(format!("cannot {action} {path:?}: {error}"))
+}
+
+/// Where one file is to be written: a folder that exists, and a name in it.
+pub struct Place {
+    folder: PathBuf,
+    name: OsString,
+}
+
+impl Place {
+    pub fn new(path: &Path) -> Result<Place, Failure> {
+        match path.file_name() {
+            // `out/` and `out/.` have the file name `out` too.
+            Some(name) if path.as_os_str().as_bytes().ends_with(name.as_bytes()) => {
+                Ok(Place { folder: path.with_file_name(""), name: name.to_os_string() })
+            }
+            _ => usage(format!("{path:?} is not the name of a file")),
+        }
+    }
 }
 
 /// Files in one folder. What was made is removed again unless `keep` is reached. Only the owner may
@@ -52,37 +74,41 @@ pub struct Output {
 }
 
 impl Output {
-    /// Into a folder, which is made where it does not exist.
-    pub fn in_folder(folder: &Path) -> Result<Output, Failure> {
-        let new_folder = match DirBuilder::new().mode(0o700).create(folder) {
+    fn new(folder: PathBuf) -> Output {
+        interrupt::hold();
+        Output { folder, new_folder: false, made: Vec::new() }
+    }
+
+    /// Writes files into a folder, which is made where it does not exist.
+    pub fn in_folder(folder: &Path, files: &[(OsString, &[u8])]) -> Result<Output, Failure> {
+        let mut output = Output::new(folder.to_path_buf());
+        output.new_folder = match DirBuilder::new().mode(0o700).create(folder) {
             Ok(()) => true,
             Err(error) if error.kind() == ErrorKind::AlreadyExists && folder.is_dir() => false,
             Err(error) => return Err(failed("make the folder", folder, &error)),
         };
-        Ok(Output { folder: folder.to_path_buf(), new_folder, made: Vec::new() })
+        output.write(files)?;
+        Ok(output)
     }
 
-    /// Writes one file, into a folder that exists.
-    pub fn one_file(path: &Path, bytes: &[u8]) -> Result<Output, Failure> {
-        let Some(name) = path.file_name() else {
-            return Err(Failure::Usage(format!("{} is not the name of a file", path.display())));
-        };
-        let folder = path.with_file_name("");
-        let mut output = Output { folder, new_folder: false, made: Vec::new() };
-        output.write(&[(name.to_os_string(), bytes)])?;
+    pub fn one_file(place: &Place, bytes: &[u8]) -> Result<Output, Failure> {
+        let mut output = Output::new(place.folder.clone());
+        output.write(&[(place.name.clone(), bytes)])?;
         Ok(output)
     }
 
     /// Writes all files under other names first, and gives them their names only when all are written.
     /// A name that is taken already is seen before anything is written.
-    pub fn write(&mut self, files: &[(OsString, &[u8])]) -> Result<(), Failure> {
+    fn write(&mut self, files: &[(OsString, &[u8])]) -> Result<(), Failure> {
         for (name, _) in files {
             free(&self.folder.join(name))?;
         }
         for (name, bytes) in files {
-            self.write_part(&self.part(name), bytes)?;
+            interrupt::check()?;
+            self.write_part(name, bytes)?;
         }
         for (name, _) in files {
+            interrupt::check()?;
             self.give_name(name)?;
         }
         Ok(())
@@ -96,20 +122,29 @@ impl Output {
         self.folder.join(part)
     }
 
-    fn write_part(&mut self, path: &Path, bytes: &[u8]) -> Result<(), Failure> {
-        let opened = OpenOptions::new().write(true).create_new(true).mode(0o600).open(path);
-        let mut file = opened.map_err(|error| failed("make", path, &error))?;
-        self.made.push(path.to_path_buf());
+    fn write_part(&mut self, name: &OsString, bytes: &[u8]) -> Result<(), Failure> {
+        let (part, path) = (self.part(name), self.folder.join(name));
+        let opened = OpenOptions::new().write(true).create_new(true).mode(0o600).open(&part);
+        let mut file = opened.map_err(|error| match error.kind() {
+            ErrorKind::AlreadyExists => Failure::File(format!("cannot write {path:?}: {part:?} is in the way")),
+            _ => failed("write", &path, &error),
+        })?;
+        self.made.push(part);
         let written = file.write_all(bytes).and_then(|()| file.sync_all());
-        written.map_err(|error| failed("write", path, &error))
+        written.map_err(|error| failed("write", &path, &error))
     }
 
+    /// Links the file to its name. That fails where another run has taken the name since it was looked at, while a
+    /// `rename` would overwrite that run's file.
     fn give_name(&mut self, name: &OsString) -> Result<(), Failure> {
         let (part, path) = (self.part(name), self.folder.join(name));
-        free(&path)?;
-        fs::rename(&part, &path).map_err(|error| failed("write", &path, &error))?;
+        fs::hard_link(&part, &path).map_err(|error| match error.kind() {
+            ErrorKind::AlreadyExists => taken(&path),
+            _ => failed("write", &path, &error),
+        })?;
+        self.made.push(path.clone());
+        fs::remove_file(&part).map_err(|error| failed("write", &path, &error))?;
         self.made.retain(|made| *made != part);
-        self.made.push(path);
         Ok(())
     }
 
@@ -131,9 +166,13 @@ impl Drop for Output {
     }
 }
 
+fn taken(path: &Path) -> Failure {
+    Failure::File(format!("{path:?} exists already, and nothing is overwritten"))
+}
+
 fn free(path: &Path) -> Result<(), Failure> {
     match fs::symlink_metadata(path) {
-        Ok(_) => Err(Failure::File(format!("{} exists already, and nothing is overwritten", path.display()))),
+        Ok(_) => Err(taken(path)),
         Err(error) if error.kind() == ErrorKind::NotFound => Ok(()),
         Err(error) => Err(failed("write", path, &error)),
     }

@@ -1,9 +1,13 @@
 //! What `--help` says.
 
-pub const ALL: &str = "\
+use crate::failure::refusals;
+use crate::scheme::Scheme;
+use gilunavoi::limits::{MAX_MESSAGE, MAX_PARTIES};
+
+const COMMANDS: &str = "\
 sharing splits a message into shares and opens it again from the beginnings of a few of them.
 
-  sharing scheme [N R Z COUNTS]
+  sharing scheme [S]
       says what a scheme costs
   sharing split [--scheme S] MESSAGE KEYS FOLDER
       writes one share a party
@@ -12,38 +16,61 @@ sharing splits a message into shares and opens it again from the beginnings of a
   sharing reconstruct [--scheme S] --length L OUT PARTY=FILE PARTY=FILE ..
       opens the message from what the parties sent
 
-  sharing COMMAND --help says more.
+  sharing COMMAND --help, or -h, says more.
+";
 
+pub fn all() -> String {
+    let table: String = refusals().map(|(number, reason)| format!("{number:4}  {reason}\n")).collect();
+    let default = Scheme::default().in_a_row();
+    format!(
+        "\
+{COMMANDS}
 A scheme has N parties. R of them may be absent, and Z may put their shares together and still learn
 nothing but the message's length in blocks. The counts are the numbers of parties at which opening is
 cheap, falling, the last one N - R. S is all of it in a row: N,R,Z and the counts. Without a scheme
-it is 5,2,1,5,4,3.
+it is {default}. The value of an option may also stand behind =, as in --length=33.
 
 This program never draws keys. They come from a file that you name; draw them evenly at random, keep
 them as secret as the message, use each key file for one message only, and destroy it afterwards.
 
-Files are written whole or not at all, for their owner's eyes only, and none is overwritten.
+Files are written whole or not at all, for their owner's eyes only, and none is overwritten. That holds
+on Ctrl-C and on the signals TERM and HUP too. What cannot be caught, such as KILL or a power cut, can
+leave some of the files, and files named .NAME.NUMBER.part: they are as secret as what was to be
+written, and for you to remove.
 The exit status is 0 when all went well, 1 when the input was refused or a file could not be read or
-written, and 2 when the command line cannot be understood.
-";
+written, and 2 when the command line cannot be understood. A signal ends the program as it ends others.
 
-pub const SCHEME: &str = "\
-sharing scheme N R Z COUNTS
+Input is refused for the first of these reasons that applies, with its number:
+
+{table}"
+    )
+}
+
+pub fn scheme() -> String {
+    format!(
+        "\
+sharing scheme N,R,Z,D1,D2..
 sharing scheme
 
 Says of a scheme, or of the default one, how long a block is, how many rows it is kept in, how many key
 bytes it takes, and for each count how many bytes of a block each party sends, and all of them together.
 
-  N       how many parties there are, 2 to 16
-  R       how many may be absent
-  Z       how many may put their shares together and learn nothing, at least 1
-  COUNTS  numbers of parties to read from, falling, the last one N - R; as 5,4,3
-";
+  N         how many parties there are, 2 to {MAX_PARTIES}
+  R         how many may be absent
+  Z         how many may put their shares together and learn nothing, at least 1
+  D1,D2..   the counts: numbers of parties to read from, falling, the last one N - R
 
-pub const SPLIT: &str = "\
+Spaces may stand for the commas, here and after --scheme.
+"
+    )
+}
+
+pub fn split() -> String {
+    format!(
+        "\
 sharing split [--scheme N,R,Z,D1,D2..] MESSAGE KEYS FOLDER
 
-Splits the file MESSAGE, of at most 16384 bytes, into one share a party: FOLDER/share-1 and so on. The
+Splits the file MESSAGE, of at most {MAX_MESSAGE} bytes, into one share a party: FOLDER/share-1 and so on. The
 folder is made if it does not exist. Keep the message's length, which is printed: it is needed to open
 the message, and the shares do not hold it.
 
@@ -51,16 +78,22 @@ This program never draws keys: the file KEYS has them. Its length must be Z byte
 block; where it is another, the length that is needed is said. Draw the keys evenly at random, keep them
 as secret as the message, use each key file for one message only, and destroy it afterwards: of two
 messages under the same keys a single party learns something of how they differ.
-";
+"
+    )
+}
 
-pub const PREFIX: &str = "\
+pub fn prefix() -> String {
+    "\
 sharing prefix [--scheme N,R,Z,D1,D2..] --length L --readers D SHARE OUT
 
 Writes into OUT what a party sends when D parties are read from: the beginning of its whole share, the
 file SHARE. L is the length of the message, and D is one of the scheme's counts.
-";
+"
+    .to_string()
+}
 
-pub const RECONSTRUCT: &str = "\
+pub fn reconstruct() -> String {
+    "\
 sharing reconstruct [--scheme N,R,Z,D1,D2..] --length L OUT PARTY=FILE PARTY=FILE ..
 
 Opens a message of L bytes and writes it into OUT. Each FILE is the prefix that the party of this number
@@ -69,4 +102,6 @@ parties may stand in any order: they are sorted.
 
 Prefixes of the right length always open. Whether a party sent false bytes, or L or the scheme is not
 the one that the message was split with, cannot be seen here: the message is then another.
-";
+"
+    .to_string()
+}

@@ -7,6 +7,8 @@ mod commands;
 mod failure;
 mod files;
 mod help;
+mod interrupt;
+mod report;
 mod scheme;
 
 use std::process::ExitCode;

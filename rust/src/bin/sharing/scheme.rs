@@ -3,6 +3,7 @@
 use crate::arguments::{byte_list, usage, Arguments};
 use crate::failure::Failure;
 use gilunavoi::library;
+use gilunavoi::limits::{DEFAULT_COUNTS, DEFAULT_N, DEFAULT_R, DEFAULT_Z};
 use std::ffi::OsStr;
 use std::fmt;
 
@@ -23,21 +24,28 @@ pub struct Block {
 /// The scheme of the library's calls without one.
 impl Default for Scheme {
     fn default() -> Scheme {
-        Scheme { n: 5, r: 2, z: 1, counts: vec![5, 4, 3] }
+        Scheme { n: DEFAULT_N, r: DEFAULT_R, z: DEFAULT_Z, counts: DEFAULT_COUNTS.to_vec() }
     }
 }
 
 impl Scheme {
-    /// What follows `--scheme`: N,R,Z and the counts.
-    fn from_list(word: &OsStr) -> Result<Scheme, Failure> {
-        match byte_list(word)?[..] {
+    /// N, R, Z and the counts, in one word or in several; the default scheme where there is none.
+    pub fn from_words<'a>(words: impl IntoIterator<Item = &'a OsStr>) -> Result<Scheme, Failure> {
+        let lists = words.into_iter().map(byte_list).collect::<Result<Vec<_>, Failure>>()?;
+        match lists.concat()[..] {
+            [] => Ok(Scheme::default()),
             [n, r, z, ref counts @ ..] => Ok(Scheme { n, r, z, counts: counts.to_vec() }),
-            _ => usage(format!("--scheme needs N,R,Z and the counts, not '{}'", word.to_string_lossy())),
+            _ => usage("a scheme is N, R, Z and the counts".to_string()),
         }
     }
 
     pub fn of(arguments: &Arguments) -> Result<Scheme, Failure> {
-        arguments.option("--scheme").map_or_else(|| Ok(Scheme::default()), Scheme::from_list)
+        Scheme::from_words(arguments.option("--scheme"))
+    }
+
+    /// As it is written after `--scheme`.
+    pub fn in_a_row(&self) -> String {
+        in_a_row(&[&[self.n, self.r, self.z], &self.counts[..]].concat())
     }
 
     /// Asks the library whether the scheme is accepted.
@@ -49,10 +57,18 @@ impl Scheme {
     }
 }
 
+/// Numbers with commas between them.
+fn in_a_row(numbers: &[u8]) -> String {
+    numbers.iter().map(u8::to_string).collect::<Vec<_>>().join(",")
+}
+
 impl fmt::Display for Scheme {
     fn fmt(&self, f: &mut fmt::Formatter) -> fmt::Result {
-        let counts: Vec<String> = self.counts.iter().map(u8::to_string).collect();
-        write!(f, "N {}, R {}, Z {}, counts {}", self.n, self.r, self.z, counts.join(","))
+        write!(f, "N {}, R {}, Z {}, ", self.n, self.r, self.z)?;
+        match &self.counts[..] {
+            [] => write!(f, "no counts"),
+            counts => write!(f, "counts {}", in_a_row(counts)),
+        }
     }
 }
 

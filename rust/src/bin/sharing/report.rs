@@ -1,0 +1,39 @@
+//! What is said on standard output, and how numbers are said.
+
+use crate::failure::Failure;
+use std::io::Write;
+use std::sync::atomic::{AtomicBool, Ordering};
+
+static CLOSED: AtomicBool = AtomicBool::new(false);
+
+extern "C" {
+    fn fcntl(file: i32, command: i32, ...) -> i32;
+}
+
+extern "C" fn look() {
+    const FLAGS_OF_FILE: i32 = 1;
+    CLOSED.store(unsafe { fcntl(1, FLAGS_OF_FILE) } == -1, Ordering::Relaxed);
+}
+
+/// Where standard output is closed, Rust opens /dev/null in its place before `main`, and all that is said would seem to
+/// be printed. What stands in this section runs earlier.
+#[used]
+#[link_section = ".init_array"]
+static LOOK: extern "C" fn() = look;
+
+/// Writes to standard output, where `print!` would end the program if nobody reads.
+pub fn say(text: &str) -> Result<(), Failure> {
+    let said = if CLOSED.load(Ordering::Relaxed) {
+        Err("it is closed".to_string())
+    } else {
+        let mut out = std::io::stdout();
+        out.write_all(text.as_bytes()).and_then(|()| out.flush()).map_err(|error| error.to_string())
+    };
+    said.map_err(|reason| Failure::File(format!("cannot write to standard output: {reason}")))
+}
+
+/// A number and what it counts.
+pub fn counted(number: usize, thing: &str) -> String {
+    let ending = if number == 1 { "" } else { "s" };
+    format!("{number} {thing}{ending}")
+}

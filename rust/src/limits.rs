@@ -1,0 +1,17 @@
+//! The proved library's limits and default scheme, for who wants to know them before a call. A test holds them to what
+//! the library refuses and accepts.
+
+/// The most parties.
+pub const MAX_PARTIES: u8 = 16;
+/// The most counts.
+pub const MAX_COUNTS: usize = 8;
+/// The longest block, in bytes.
+pub const MAX_BLOCK: usize = 840;
+/// The longest message, in bytes.
+pub const MAX_MESSAGE: usize = 16384;
+
+/// The scheme of the calls without one.
+pub const DEFAULT_N: u8 = 5;
+pub const DEFAULT_R: u8 = 2;
+pub const DEFAULT_Z: u8 = 1;
+pub const DEFAULT_COUNTS: [u8; 3] = [5, 4, 3];
