@@ -45,7 +45,7 @@ module _ (p : Parameters) (A : Accepted p) (parties : List ℕ) (counted : occur
   pub basis-of : BasisOf (map (point p) parties) (basisTable (map (point p) parties))
   basis-of =
       let right = parties-distinct (p .n) parties passed in
-      record { is = refl; bytes = points-bytes p A parties (right .1); distinct = points-distinct p parties (right .0) }
+      record { is = refl; bytes = points-bytes p A parties (right .1); distinct = points-distinct p A parties (right .1) (right .0) }
 
   -- N whole blocks under keys that give these prefixes
   module _ (N : ℕ) (prefixes B K : List ℕ) (whole : Bytes (N * block p) B) (enough : Bytes (N * (rows p * p .z)) K) (G : Gives p parties N B K prefixes) where
