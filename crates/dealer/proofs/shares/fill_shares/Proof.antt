@@ -18,6 +18,7 @@ use Rattle.gf256.specs.Lanes.{lanes}
 use Rattle.columns.proofs.Laws.{run-fits}
 use Rattle.interpolation.specs.Interpolation.{side}
 use Rattle.scheme.specs.Facts as facts
+use Rattle.scheme.specs.Limits.{maxBlock, maxMessage}
 use Rattle.staircase.specs.Coefficients.{shareByte}
 use Rattle.rows.specs.Sources.{RowOrigins}
 use Rattle.rows.proofs.Scheme.{facts-of, rows-high, row-count-high}
@@ -62,10 +63,10 @@ module _ (s : tie.Start Inv-run μ-run Inv-row μ-row) where
   known : facts.Accepted (s .args .s .n) (s .args .s .r) (s .args .s .z) (s .args .counts .now) (s .args .s .block) (s .args .s .rows)
   known = facts-of (s .args .s) (s .args .counts .now) (s .pre .0)
 
-  few-rows : s .args .s .rows ≤ 840
+  few-rows : s .args .s .rows ≤ maxBlock
   few-rows = omega (arith, rows-high (s .args .s) (s .args .counts .now) (s .pre .0), known .limit)
 
-  small : s .args .s .rows * s .args .blocks ≤ 13762560
+  small : s .args .s .rows * s .args .blocks ≤ maxBlock * maxMessage
   small = mul-le-mul few-rows (s .pre .1)
 
 -- a row has at most 16 coefficients
