@@ -19,7 +19,7 @@ use Rattle.scheme.specs.Check.{checked, blockCount}
 use Rattle.scheme.proofs.Laws.{accepted as accepted-facts, first-none, when-none, answer-none, answered-some, scheme-refused}
 use Rattle.family.specs.Message.{padded}
 use Rattle.family.proofs.Shares.{length-shares}
-use Rattle.staircase.specs.Parameters.{Parameters, Accepted, block, rows, point}
+use Rattle.staircase.specs.Parameters.{Parameters, Accepted, parameters, block, rows, point}
 use Rattle.staircase.specs.Coefficients.{shareByte}
 use Rattle.staircase.specs.Shares.{staircase, shares}
 use Rattle.staircase.proofs.Bytes.{shares-are}
@@ -172,16 +172,15 @@ module _ (p : Parameters) (s : Scheme) (is : SchemeIs s (p .n) (p .r) (p .z) (p 
     (N-is : N ≡ blockCount (s .block) (length message)) (short : length message ≤ maxMessage)
     (enough : length keys ≡ blockCount (block p) (length message) * p .z * rows p)
     (room : length out ≡ p .n * blockCount (block p) (length message) * rows p) where
-  loops-write : joined (s .n) (λ a. tabulate (s .rows * N) (shareByte (s .block) (s .rows) (s .z) (p .counts) message keys N (a + 1)))
+  loops-write : joined (s .n) (λ a. tabulate (s .rows * N) (shareByte (s .block) (s .rows) (s .z) (p .counts) message keys N (point (parameters (s .n) (s .r) (s .z) (p .counts)) (a + 1))))
       ≡ shares p message keys
-  unfolding point
   loops-write =
       let M : ℕ = blockCount (block p) (length message) in
       let own : length keys ≡ M * (rows p * p .z) = enough ∙ mul-assoc M (p .z) (rows p) ∙ ap (λ (x : ℕ). M * x) (mul-comm (p .z) (rows p)) in
-      rw (blocks-are p s is (length message) N N-is, is .n-is, is .z-is, is .rows-is, is .block-is) (sym (shares-are p (is .passed) message keys own))
+      rw (blocks-are p s is (length message) N N-is, is .n-is, is .r-is, is .z-is, is .rows-is, is .block-is) (sym (shares-are p (is .passed) message keys own))
 
   pub deals : (w : List ℕ)
-      → w ≡ joined (s .n) (λ a. tabulate (s .rows * N) (shareByte (s .block) (s .rows) (s .z) (p .counts) message keys N (a + 1)))
+      → w ≡ joined (s .n) (λ a. tabulate (s .rows * N) (shareByte (s .block) (s .rows) (s .z) (p .counts) message keys N (point (parameters (s .n) (s .r) (s .z) (p .counts)) (a + 1))))
       → (accepted (N * s .rows ∷ []) ≡ splitAnswer p (length message) (length keys) (length out)) × (w ≡ splitOutput p message keys out)
   deals w e =
       let none = none-applies p (is .passed) (length message) (length keys) (length out) short enough room in

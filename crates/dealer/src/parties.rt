@@ -1,6 +1,6 @@
 // The splitter's inner loop: one row of 64 blocks side by side, for all parties.
 ghost use mathlib.Core.Path.{_≡_};
-ghost use Prim.Native.Nat.{_+_, _*_, _≤_, _<_};
+ghost use Prim.Native.Nat.{_+_, _*_, _≤_};
 ghost use lib.ListN.{length, take, getD};
 ghost use Rattle.gf256.specs.Lanes.{lanes};
 ghost use Rattle.interpolation.specs.Interpolation.{side};
@@ -21,32 +21,23 @@ fn put(values: [u8; LANES], out: &mut [u8])
     }
 }
 
-// The number of the party whose share is that at place a, counted from 0.
-fn party_at(a: usize) -> u8
-    requires { ⌜ a < 255 ⌝ }
-    ensures { λ s. ⌜ s ≡ a + 1 ⌝ }
-{
-    (a + 1) as u8
-}
-
 // Writes into each party's share, at place q, the first `many` bytes of the row's values at its point.
-// The shares stand one after another, and share a, counted from 0, is that of party a + 1.
+// The shares stand one after another, in the order of the points.
 pub(crate) fn fill_parties(
     columns: &[[u8; LANES]; SIDE],
     d: usize,
-    n: usize,
+    points: &[u8],
     share: usize,
     q: usize,
     many: usize,
     out: &mut [u8],
 )
-    requires { ⌜ (d ≤ side) × (length (now columns) ≡ side) × (n < 256) × (many ≤ lanes) × (q + many ≤ share) × (length (now out) ≡ n * share) ⌝ }
-    ensures { λ _. ⌜ Strip share q many (λ a k. getD (valuesOf (a + 1) (take d (now (columns .entry)))) k 0) n (now (out .entry)) (now (out .exit)) ⌝ }
+    requires { ⌜ (d ≤ side) × (length (now columns) ≡ side) × (many ≤ lanes) × (q + many ≤ share) × (length (now out) ≡ length (now points) * share) ⌝ }
+    ensures { λ _. ⌜ Strip share q many (λ a k. getD (valuesOf (getD (now (points .entry)) a 0) (take d (now (columns .entry)))) k 0) (length (now (points .entry))) (now (out .entry)) (now (out .exit)) ⌝ }
 {
     let mut a = 0;
-    while a < n {
-        let point = rows::point_of(party_at(a));
-        let values = columns::row_values(columns, d, point);
+    while a < points.len() {
+        let values = columns::row_values(columns, d, points[a]);
         let at = a * share + q;
         let end = at + many;
         put(values, &mut out[at..end]);

@@ -9,6 +9,7 @@ ghost use Rattle.lists.specs.Table.{tabulate, joined};
 ghost use Rattle.interpolation.specs.Interpolation.{side};
 ghost use Rattle.scheme.specs.Facts.{SchemeIs};
 ghost use Rattle.scheme.specs.Limits.{maxParties, maxBlock, maxMessage};
+ghost use Rattle.staircase.specs.Parameters.{parameters, point};
 ghost use Rattle.staircase.specs.Coefficients.{origin, shareByte};
 ghost use Rattle.dealer.specs.Columns.{column};
 ghost use Rattle.rows.specs.Sources.{RowOrigins};
@@ -63,7 +64,8 @@ fn row_columns(
     columns
 }
 
-// Writes all shares: byte j × blocks + t of each is the value of row j of block t.
+// Writes all shares: byte j × blocks + t of each is the value of row j of block t at its party's point. The points
+// are worked out once.
 pub(crate) fn fill_shares(
     s: Scheme,
     counts: &[u8],
@@ -73,11 +75,12 @@ pub(crate) fn fill_shares(
     out: &mut [u8],
 )
     requires { ⌜ SchemeIs s (s .n) (s .r) (s .z) (now counts) × (blocks ≤ maxMessage) × (length (now out) ≡ s .n * (s .rows * blocks)) ⌝ }
-    ensures { λ _. ⌜ now (out .exit) ≡ joined (s .n) (λ a. tabulate (s .rows * blocks) (shareByte (s .block) (s .rows) (s .z) (now (counts .entry)) (now (message .entry)) (now (keys .entry)) blocks (a + 1))) ⌝ }
+    ensures { λ _. ⌜ now (out .exit) ≡ joined (s .n) (λ a. tabulate (s .rows * blocks) (shareByte (s .block) (s .rows) (s .z) (now (counts .entry)) (now (message .entry)) (now (keys .entry)) blocks (point (parameters (s .n) (s .r) (s .z) (now (counts .entry))) (a + 1)))) ⌝ }
 {
     let n = wide(s.n);
     let rows = s.rows;
     let share = rows * blocks;
+    let points = rows::party_points(n);
     let mut q = 0;
     let mut j = 0;
     'row: while j < rows {
@@ -87,7 +90,7 @@ pub(crate) fn fill_shares(
         'run: while t < blocks {
             let many = columns::run_of(blocks - t);
             let columns = row_columns(s, &places, message, keys, t, j, d);
-            fill_parties(&columns, d, n, share, q, many, out);
+            fill_parties(&columns, d, &points[..n], share, q, many, out);
             q += many;
             t += many;
         }

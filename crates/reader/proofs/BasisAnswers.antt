@@ -6,12 +6,9 @@ use mathlib.Core.Bool.{true, false}
 use mathlib.Core.List.{List, [], _∷_, map}
 use Prim.Native.Nat.{ℕ, _≤_}
 use native.Mathlib.Omega.{arith}
-use lib.ListN.{length, getD, take, length-map}
+use lib.ListN.{length}
 use borrow.Author.Tests.{ne-eqb, not-false}
 use Rattle.lists.specs.Each.{Each, Distinct, occurs}
-use Rattle.lists.proofs.Each.{getD-map}
-use Rattle.lists.proofs.Fill.{Fill}
-use Rattle.lists.proofs.Table.{tabulate-is}
 use Rattle.interpolation.specs.Interpolation.{side, basisTable}
 use Rattle.scheme.specs.declared.Scheme.{Scheme}
 use Rattle.scheme.specs.declared.SchemeAnswer.{SchemeAnswer}
@@ -98,16 +95,6 @@ module _ (p : Parameters) (parties : List ℕ) (none : basisRefusal p parties �
   pub table-given : basisTable (map (point p) parties) ≡ basisOf p parties
   unfolding basisOf
   table-given = rw none
-
--- ---- the code's points
-
--- an array whose entries up to the parties' number are their points
-pub points-all : (p : Parameters) (parties points : List ℕ) (i : ℕ) → i ≤ length parties → length parties ≤ i
-    → Fill (λ k. point p (getD parties k 0)) side i points → take (length parties) points ≡ map (point p) parties
-points-all p parties points i l m F =
-    let e : length parties ≡ i = omega arith in
-    rw e (F .is)
-    ∙ sym (tabulate-is (map (point p) parties) i (λ k. point p (getD parties k 0)) 0 (length-map parties (point p) ∙ e) (λ k b. getD-map (point p) parties k 0 0 (rw e b)))
 
 -- the answer's number
 pub basis-number : (p : Parameters) (parties : List ℕ) → basisAnswer p parties .number ≡ basisRefusal p parties

@@ -91,7 +91,9 @@ module _ (p : Parameters) (parties : List ℕ) (none : basisRefusal p parties �
       points-bytes p (g .good) parties (g .inside)
 
   apart : Distinct (map (point p) parties)
-  apart = points-distinct p parties (basis-given p parties none .apart)
+  apart =
+      let g = basis-given p parties none in
+      points-distinct p (g .good) parties (g .inside) (g .apart)
 
   -- beyond the parties all is 0
   pub entry-beyond : (i e : ℕ) → (length parties ≤ i) ⊎ (length parties ≤ e) → entry (basisOf p parties) i e ≡ 0

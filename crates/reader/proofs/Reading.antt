@@ -43,7 +43,7 @@ module _ (p : Parameters) (A : Accepted p) (parties : List ℕ) (counted : occur
 
   -- the basis of the parties' points
   pub basis-of : BasisOf (map (point p) parties) (basisTable (map (point p) parties))
-  basis-of = record { is = refl; bytes = points-bytes p A parties inside; distinct = points-distinct p parties apart }
+  basis-of = record { is = refl; bytes = points-bytes p A parties inside; distinct = points-distinct p A parties inside apart }
 
   -- N whole blocks under keys that give these prefixes
   module _ (N : ℕ) (prefixes B K : List ℕ) (whole : Bytes (N * block p) B) (enough : Bytes (N * (rows p * p .z)) K) (G : Gives p parties N B K prefixes) where

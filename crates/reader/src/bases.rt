@@ -1,13 +1,10 @@
 // The Lagrange basis (document 01's weights) for the parties that are read.
 ghost use mathlib.Core.Path.{_≡_};
-ghost use mathlib.Core.List.{map};
-ghost use Prim.Native.Nat.{_≤_};
-ghost use lib.ListN.{length, take};
-ghost use Rattle.interpolation.specs.Interpolation.{side};
 ghost use Rattle.scheme.specs.Outcome.{outcome};
-ghost use Rattle.staircase.specs.Parameters.{Parameters, parameters, defaultParameters, point};
+ghost use Rattle.staircase.specs.Parameters.{parameters, defaultParameters};
 ghost use Rattle.reader.specs.Basis.{basisRefusal, basisAnswer, basisOf};
 use interpolation::SIDE;
+use rows::points_of;
 use scheme::Answer;
 use scheme::SchemeAnswer;
 use scheme::limits;
@@ -81,18 +78,4 @@ fn first_refusal(n: u8, r: u8, z: u8, counts: &[u8], parties: &[u8]) -> u8
         return 7;
     }
     0
-}
-
-// The points of at most 16 parties, in their order.
-pub(crate) fn points_of(parties: &[u8]) -> [u8; SIDE]
-    requires { ⌜ length (now parties) ≤ side ⌝ }
-    ensures { λ points. ⌜ ((p : Parameters) → take (length (now (parties .entry))) points ≡ map (point p) (now (parties .entry))) ⌝ }
-{
-    let mut points = [0u8; SIDE];
-    let mut i = 0;
-    while i < parties.len() {
-        points[i] = rows::point_of(parties[i]);
-        i += 1;
-    }
-    points
 }

@@ -13,9 +13,9 @@ ghost use Rattle.reader.specs.Reconstruct.{reconstructAnswer, reconstruc
 ghost use Rattle.scheme.specs.Readers.{readersRefused};
 ghost use Rattle.staircase.specs.Exactness.{openedString};
 ghost use Rattle.reader.specs.Decoding as decoding;
-use crate::bases::points_of;
 use crate::decoding;
 use interpolation::SIDE;
+use rows::points_of;
 use scheme::Answer;
 use scheme::Scheme;
 use scheme::SchemeAnswer;

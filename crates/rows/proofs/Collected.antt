@@ -1,55 +1,49 @@
--- The places of a row as a loop over the degrees from z up collects them: those below e are found, and the others are still 0.
+-- An array of 16 as a loop fills it by a rule: the entries below e are by the rule, and the others are still 0.
 -- Assumes nothing.
 use mathlib.Core.Path.{_≡_, refl, _∙_}
 use mathlib.Core.List.{List}
 use mathlib.Core.Logic.{⊎-elim}
-use Prim.Native.Nat.{ℕ, _+_, _≤_, _<_, min}
+use Prim.Native.Nat.{ℕ, _+_, _≤_, _<_}
 use native.Mathlib.Nat.{ne-of-lt}
 use native.Mathlib.Omega.{arith}
 use lib.ListN.{length, getD, set, replicate, length-set}
 use lib.Seq.{getD-set-same, getD-set-other}
+use Rattle.lists.specs.Table.{tabulate}
 use Rattle.lists.proofs.Each.{replicate-at}
 use Rattle.lists.proofs.Table.{tabulate-is}
 use Rattle.lists.proofs.Tests.{lt-or-le}
 use Rattle.interpolation.specs.Interpolation.{side}
-use Rattle.staircase.specs.Coefficients.{countOf}
-use Rattle.rows.specs.Origins.{found, rowOrigins}
-use Rattle.rows.proofs.Steps.{found-key, found-past}
 
-pub record Collected (m z : ℕ) (ds : List ℕ) (row e : ℕ) (places : List ℕ) : Type 0 where
-  pub long : length places ≡ side
-  pub done : (k : ℕ) → k < e → getD places k 0 ≡ found m z ds row k
-  pub rest : (k : ℕ) → e ≤ k → getD places k 0 ≡ 0
+pub record Collected (f : ℕ → ℕ) (e : ℕ) (array : List ℕ) : Type 0 where
+  pub long : length array ≡ side
+  pub done : (k : ℕ) → k < e → getD array k 0 ≡ f k
+  pub rest : (k : ℕ) → e ≤ k → getD array k 0 ≡ 0
 
-module _ (m z : ℕ) (ds : List ℕ) (row e : ℕ) where
-  pub collected-none : e ≡ z → Collected m z ds row e (replicate side 0)
-  collected-none h =
+module _ (f : ℕ → ℕ) (e : ℕ) where
+  pub collected-none : ((k : ℕ) → k < e → 0 ≡ f k) → Collected f e (replicate side 0)
+  collected-none low =
       record {
         long = refl;
-        done = λ k l. replicate-at side k 0 ∙ found-key m z ds row k _ _ e h refl refl l;
+        done = λ k l. replicate-at side k 0 ∙ low k l;
         rest = λ k l. replicate-at side k 0;
       }
 
-  pub collected-more : (v : ℕ) (places : List ℕ) → e < side → v ≡ found m z ds row e → Collected m z ds row e places
-      → Collected m z ds row (e + 1) (set places e v)
-  collected-more v places h v-is C =
-      let here : e < length places = omega (arith, C .long) in
-      record {
-        long = length-set places e v ∙ C .long;
-        done = λ k l.
-            ⊎-elim (λ (b : k < e). getD-set-other places e k v 0 (ne-of-lt b) ∙ C .done k b)
-            (λ (b : e ≤ k).
-            let q : k ≡ e = omega arith in
-            rw (q, getD-set-same places e v 0 here) v-is)
-            (lt-or-le k e);
-        rest = λ k l. getD-set-other places e k v 0 (λ q. omega arith) ∙ C .rest k (omega arith);
-      }
+  module _ (array : List ℕ) (C : Collected f e array) where
+    pub collected-more : (v : ℕ) → e < side → v ≡ f e → Collected f (e + 1) (set array e v)
+    collected-more v h v-is =
+        let here : e < length array = omega (arith, C .long) in
+        record {
+          long = length-set array e v ∙ C .long;
+          done = λ k l.
+              ⊎-elim (λ (b : k < e). getD-set-other array e k v 0 (ne-of-lt b) ∙ C .done k b)
+              (λ (b : e ≤ k).
+              let q : k ≡ e = omega arith in
+              rw (q, getD-set-same array e v 0 here) v-is)
+              (lt-or-le k e);
+          rest = λ k l. getD-set-other array e k v 0 (λ q. omega arith) ∙ C .rest k (omega arith);
+        }
 
-  pub collected-all : (places : List ℕ) → min (countOf m z ds row) side ≤ e → Collected m z ds row e places → places ≡ rowOrigins m z ds row
-  unfolding rowOrigins countOf
-  collected-all places h C =
-      tabulate-is places side (found m z ds row) 0 (C .long)
-      (λ k l.
-      ⊎-elim (λ (b : k < e). C .done k b)
-      (λ (b : e ≤ k). C .rest k b ∙ found-past m z ds row k _ _ z refl refl refl (omega arith))
-      (lt-or-le k e))
+    pub collected-all : ((k : ℕ) → e ≤ k → k < side → 0 ≡ f k) → array ≡ tabulate side f
+    collected-all high =
+        tabulate-is array side f 0 (C .long)
+        (λ k l. ⊎-elim (λ (b : k < e). C .done k b) (λ (b : e ≤ k). C .rest k b ∙ high k b l) (lt-or-le k e))

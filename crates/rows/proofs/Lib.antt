@@ -3,3 +3,4 @@ mod Groups
 mod Steps
 mod Collected
 pub mod Laws
+pub mod Points

@@ -1,2 +1,3 @@
 pub mod Origins
 pub mod Sources
+pub mod Points

@@ -1,11 +1,12 @@
 // What the rows of a block are made of: a row's group and the number of its coefficients, where each of
-// them comes from, and the point at which a party has the rows' values. The functions take any numbers,
+// them comes from, and the points at which the parties have the rows' values. The functions take any numbers,
 // and have an answer for those that no scheme has too; nobody uses it.
 ghost use mathlib.Core.Path.{_≡_};
 ghost use lib.ListN.{getD};
 ghost use Rattle.staircase.specs.Parameters.{Parameters, point};
 ghost use Rattle.staircase.specs.Coefficients.{groupOf, countOf};
 ghost use Rattle.rows.specs.Origins.{found, rowOrigins};
+ghost use Rattle.rows.specs.Points.{pointsOf, partyPoints};
 ghost use Rattle.rows.specs.Sources.{SourceIs};
 use interpolation::SIDE;
 use lists::smaller;
@@ -16,6 +17,34 @@ pub fn point_of(party: u8) -> u8
     ensures { λ x. ⌜ ((p : Parameters) → x ≡ point p party) ⌝ }
 {
     party
+}
+
+// The points of these parties in their order, of the first 16 where there are more, and zeros after them.
+pub fn points_of(parties: &[u8]) -> [u8; SIDE]
+    ensures { λ points. ⌜ ((p : Parameters) → points ≡ pointsOf p (now (parties .entry))) ⌝ }
+{
+    let mut points = [0u8; SIDE];
+    let end = smaller(parties.len(), SIDE);
+    let mut i = 0;
+    while i < end {
+        points[i] = point_of(parties[i]);
+        i += 1;
+    }
+    points
+}
+
+// The same for parties 1 to n.
+pub fn party_points(n: usize) -> [u8; SIDE]
+    ensures { λ points. ⌜ ((p : Parameters) → points ≡ partyPoints p n) ⌝ }
+{
+    let mut points = [0u8; SIDE];
+    let end = smaller(n, SIDE);
+    let mut i = 0;
+    while i < end {
+        points[i] = point_of((i + 1) as u8);
+        i += 1;
+    }
+    points
 }
 
 // The group of a row, counted from 0: the place of the first count whose P is above the row, or the number

@@ -42,7 +42,7 @@ module _ (p : Parameters) (A : Accepted p) (i : ℕ) (at : i < length (p .counts
   sent-most = rw many (rows-most (p .n) (p .r) (p .z) (p .counts) (block p) (rows p) facts i at)
 
   exact : BlockExact (block p) (rows p) (p .z) (p .counts) xs
-  exact = block-exact (p .n) (p .r) (p .z) (p .counts) (block p) (rows p) facts i at xs (points-bytes p A parties in-range) (points-distinct p parties apart) (as-many ∙ many)
+  exact = block-exact (p .n) (p .r) (p .z) (p .counts) (block p) (rows p) facts i at xs (points-bytes p A parties in-range) (points-distinct p A parties in-range apart) (as-many ∙ many)
 
   -- what a party has of a row is the row's value at its point
   value-at : (bytes keys : List ℕ) → length bytes ≡ block p → length keys ≡ rows p * p .z → (j a : ℕ) → j < sent → a < length parties

@@ -126,7 +126,7 @@ module _ (p : Parameters) (A : Accepted p) (parties : List ℕ) (in-range : Each
 
   mask-bytes : (j : ℕ) → Bytes (p .z) (maskOf j)
   mask-bytes j =
-      row-mask-bytes (p .z) points (points-bytes p A parties in-range) (points-distinct p parties apart) (rw (length-map parties (point p)) few) (rest first j) (rest second j)
+      row-mask-bytes (p .z) points (points-bytes p A parties in-range) (points-distinct p A parties in-range apart) (rw (length-map parties (point p)) few) (rest first j) (rest second j)
       (rest-byte (block p) (p .z) (p .counts) first j (h₁ .1)) (rest-byte (block p) (p .z) (p .counts) second j (h₂ .1))
 
   abbrev mask : List ℕ
@@ -157,7 +157,7 @@ module _ (p : Parameters) (A : Accepted p) (parties : List ℕ) (in-range : Each
       let e : piece z j (sum keys mask) ≡ sum (piece z j keys) (maskOf j) =
       piece-sum z j b keys mask (K .0) (whole .0) h ∙ ap (sum (piece z j keys)) (piece-joined {A = ℕ} b z maskOf (λ j _. mask-bytes j .0) j h) in
       let same =
-      row-same z points (points-bytes p A parties in-range) (points-distinct p parties apart) (rw (length-map parties (point p)) few) (rest first j) (rest second j)
+      row-same z points (points-bytes p A parties in-range) (points-distinct p A parties in-range apart) (rw (length-map parties (point p)) few) (rest first j) (rest second j)
       (rest-byte (block p) z (p .counts) first j (h₁ .1)) (rest-byte (block p) z (p .counts) second j (h₂ .1)) (piece z j keys) lk in
       let at-x : eval x (piece z j keys ++ rest first j) ≡ eval x (sum (piece z j keys) (maskOf j) ++ rest second j) =
       rw (getD-map {A = ℕ} {B = ℕ} (point p) parties a 0 0 l) at

@@ -6,6 +6,7 @@ use native.Mathlib.Nat.{mul-le-mul}
 use native.Mathlib.Omega.{arith}
 use borrow.Author.Needs.{needs}
 use borrow.Author.Tests.{lt-ltb, le-ltb}
+use Rattle.scheme.specs.Limits.{maxParties, maxBlock, maxMessage}
 use Rattle.dealer.specs.Columns.{column}
 use Rattle.dealer.proofs.shares.column_of.Statement.{statement}
 use Rattle.dealer.proofs.shares.column_of.Tie as tie
@@ -16,21 +17,21 @@ start c = c .before .before .before
 
 -- the places, in products of small numbers
 module _ (c : tie.After-wide) where
-  low : c .wide .result ≤ 16
+  low : c .wide .result ≤ maxParties
   low = omega (arith, c .wide .ensures, start c .pre .2)
 
-  rows-before : start c .args .t * start c .args .s .rows ≤ 13762560
+  rows-before : start c .args .t * start c .args .s .rows ≤ maxMessage * maxBlock
   rows-before = mul-le-mul (start c .pre .3) (start c .pre .1)
 
-  keys-before : (start c .args .t * start c .args .s .rows + start c .args .j) * c .wide .result ≤ 220214400
+  keys-before : (start c .args .t * start c .args .s .rows + start c .args .j) * c .wide .result ≤ (maxMessage * maxBlock + maxBlock) * maxParties
   keys-before =
-      let h : start c .args .t * start c .args .s .rows + start c .args .j ≤ 13763400 = omega (arith, rows-before, start c .pre .4, start c .pre .1) in
+      let h : start c .args .t * start c .args .s .rows + start c .args .j ≤ maxMessage * maxBlock + maxBlock = omega (arith, rows-before, start c .pre .4, start c .pre .1) in
       mul-le-mul h low
 
-  keys-apart : start c .args .s .rows * c .wide .result ≤ 13440
+  keys-apart : start c .args .s .rows * c .wide .result ≤ maxBlock * maxParties
   keys-apart = mul-le-mul (start c .pre .1) low
 
-  bytes-before : start c .args .t * start c .args .s .block ≤ 13762560
+  bytes-before : start c .args .t * start c .args .s .block ≤ maxMessage * maxBlock
   bytes-before = mul-le-mul (start c .pre .3) (start c .pre .0)
 
 -- from z up
@@ -38,7 +39,7 @@ from : (c : tie.Else1) → start (c .before) .args .s .z ≤ start (c .before) .
 from c = omega (arith, c .before .wide .ensures, c .if1 .left)
 
 -- the place lies in the block
-inside : (c : tie.Else1) → start (c .before) .args .place < 840
+inside : (c : tie.Else1) → start (c .before) .args .place < maxBlock
 inside c =
     let p = start (c .before) .pre in
     omega (arith, p .0, p .6 (from c))

@@ -5,7 +5,7 @@ use mathlib.Core.Path.{_≡_, sym, ap, _∙_}
 use Prim.Native.Nat.{ℕ, _+_, _-_, _*_, _≤_, _<_}
 use native.Mathlib.Nat.{zero-mul, mul-le-mul}
 use native.Mathlib.Omega.{arith}
-use lib.ListN.{take}
+use lib.ListN.{length, getD, take}
 use mir.Syntax.{w8}
 use denote.Plain.{UInt}
 use denote.Array.{Array}
@@ -18,68 +18,90 @@ use Rattle.gf256.specs.Lanes.{lanes}
 use Rattle.columns.proofs.Laws.{run-fits}
 use Rattle.interpolation.specs.Interpolation.{side}
 use Rattle.scheme.specs.Facts as facts
+use Rattle.scheme.specs.Limits.{maxBlock, maxMessage}
+use Rattle.staircase.specs.Parameters.{Parameters, parameters, point}
 use Rattle.staircase.specs.Coefficients.{shareByte}
 use Rattle.rows.specs.Sources.{RowOrigins}
 use Rattle.rows.proofs.Scheme.{facts-of, rows-high, row-count-high}
 use Rattle.rows.proofs.Laws.{row-origins}
+use Rattle.rows.proofs.Points.{party-points-long, party-point}
 use Rattle.dealer.proofs.Strips.{strip-columns}
 use Rattle.dealer.proofs.Runs.{run-byte}
 use Rattle.dealer.proofs.shares.fill_shares.Statement.{statement}
 use Rattle.dealer.proofs.shares.fill_shares.Tie as tie
 
 abbrev Inv-run : tie.InvT-run
-Inv-run s counts blocks message keys out₀ n rows share q₀ j d places t₀ out q t =
-    (t ≤ blocks) × (q ≡ j * blocks + t) × Columns (λ a. shareByte (s .block) (s .rows) (s .z) counts message keys blocks (a + 1)) n share q out
+Inv-run s counts blocks message keys out₀ n rows share points q₀ j d places t₀ out q t =
+    (t ≤ blocks) × (q ≡ j * blocks + t) × Columns (λ a. shareByte (s .block) (s .rows) (s .z) counts message keys blocks (point (parameters (s .n) (s .r) (s .z) counts) (a + 1))) n share q out
 
 abbrev μ-run : tie.MeasureT-run
-μ-run s counts blocks message keys out₀ n rows share q₀ j d places t₀ out q t = blocks - t
+μ-run s counts blocks message keys out₀ n rows share points q₀ j d places t₀ out q t = blocks - t
 
 abbrev Inv-row : tie.InvT-row
-Inv-row s counts blocks message keys out₀ n rows share q₀ j₀ out q j =
-    (j ≤ rows) × (q ≡ j * blocks) × Columns (λ a. shareByte (s .block) (s .rows) (s .z) counts message keys blocks (a + 1)) n share q out
+Inv-row s counts blocks message keys out₀ n rows share points q₀ j₀ out q j =
+    (j ≤ rows) × (q ≡ j * blocks) × Columns (λ a. shareByte (s .block) (s .rows) (s .z) counts message keys blocks (point (parameters (s .n) (s .r) (s .z) counts) (a + 1))) n share q out
 
 abbrev μ-row : tie.MeasureT-row
-μ-row s counts blocks message keys out₀ n rows share q₀ j₀ out q j = rows - j
+μ-row s counts blocks message keys out₀ n rows share points q₀ j₀ out q j = rows - j
 
--- the entry, the row and the entry of a run
+-- the entry; and of a run, its row, the parties' points and the entry
 abbrev start : tie.After-wide Inv-run μ-run Inv-row μ-row → tie.Start Inv-run μ-run Inv-row μ-row
 start c = c .before .before .before .before .before
 
 abbrev row-of : tie.In-run Inv-run μ-run Inv-row μ-row → tie.In-row Inv-run μ-run Inv-row μ-row
 row-of c = c .before .before .before .before
 
+abbrev parties-of : tie.In-run Inv-run μ-run Inv-row μ-row → tie.After-party-points Inv-run μ-run Inv-row μ-row
+parties-of c = row-of c .before .before
+
 abbrev first : tie.In-run Inv-run μ-run Inv-row μ-row → tie.Start Inv-run μ-run Inv-row μ-row
-first c = start (row-of c .before .before)
+first c = start (parties-of c .before)
+
+-- the scheme's parameters
+abbrev scheme : tie.Start Inv-run μ-run Inv-row μ-row → Parameters
+scheme s = parameters (s .args .s .n) (s .args .s .r) (s .args .s .z) (s .args .counts .now)
 
 -- byte i of share a, counted from 0
 abbrev rule : tie.Start Inv-run μ-run Inv-row μ-row → ℕ → ℕ → ℕ
 rule s = λ a.
     let x = s .args in
-    shareByte (x .s .block) (x .s .rows) (x .s .z) (x .counts .now) (x .message .now) (x .keys .now) (x .blocks) (a + 1)
+    shareByte (x .s .block) (x .s .rows) (x .s .z) (x .counts .now) (x .message .now) (x .keys .now) (x .blocks) (point (scheme s) (a + 1))
 
 -- the numbers of an accepted scheme
 module _ (s : tie.Start Inv-run μ-run Inv-row μ-row) where
   known : facts.Accepted (s .args .s .n) (s .args .s .r) (s .args .s .z) (s .args .counts .now) (s .args .s .block) (s .args .s .rows)
   known = facts-of (s .args .s) (s .args .counts .now) (s .pre .0)
 
-  few-rows : s .args .s .rows ≤ 840
+  few-rows : s .args .s .rows ≤ maxBlock
   few-rows = omega (arith, rows-high (s .args .s) (s .args .counts .now) (s .pre .0), known .limit)
 
-  small : s .args .s .rows * s .args .blocks ≤ 13762560
+  small : s .args .s .rows * s .args .blocks ≤ maxBlock * maxMessage
   small = mul-le-mul few-rows (s .pre .1)
+
+-- there are at most 16 parties, and the first entries of the array are their points
+module _ (c : tie.After-party-points Inv-run μ-run Inv-row μ-row) where
+  few-parties : c .before .wide .result ≤ side
+  few-parties = omega (arith, c .before .wide .ensures, known (start (c .before)) .sizes)
+
+  points-long : length (take (c .before .wide .result) (c .party-points .result)) ≡ c .before .wide .result
+  points-long = party-points-long (scheme (start (c .before))) _ _ (c .party-points .ensures _) few-parties
+
+  point-at : (a : ℕ) → a < c .before .wide .result
+      → getD (take (c .before .wide .result) (c .party-points .result)) a 0 ≡ point (scheme (start (c .before))) (a + 1)
+  point-at = party-point (scheme (start (c .before))) _ _ (c .party-points .ensures _) few-parties
 
 -- a row has at most 16 coefficients
 few : (c : tie.After-count-of Inv-run μ-run Inv-row μ-row) → c .count-of .result ≤ side
 few c =
-    let s = start (c .before .before .before) in
+    let s = start (c .before .before .before .before) in
     omega (arith, c .count-of .ensures, row-count-high (s .args .s) (s .args .counts .now) (s .pre .0) (c .before .before .row .j) (c .before .row-test .taken))
 
 -- the places are the origins of the row's coefficients
 origins-of : (c : tie.After-row-origins Inv-run μ-run Inv-row μ-row)
-    → let a = start (c .before .before .before .before) .args in
+    → let a = start (c .before .before .before .before .before) .args in
     RowOrigins (a .s .block) (a .s .z) (a .counts .now) (c .before .before .before .row .j) (c .before .count-of .result) (c .row-origins .result)
 origins-of c =
-    let s = start (c .before .before .before .before) in
+    let s = start (c .before .before .before .before .before) in
     rw (c .row-origins .ensures, c .before .count-of .ensures)
     (row-origins (s .args .s) (s .args .counts .now) (s .pre .0) (c .before .before .before .row .j) (c .before .before .row-test .taken))
 
@@ -103,9 +125,10 @@ fill-shares-spec =
     (tie.spec Inv-run μ-run Inv-row μ-row
     (λ c κs. search needs)
     (λ c. omega (arith, small (start c)))
+    (λ c κs. search needs)
     (λ c.
-    let s = start c in
-    (search needs, sym (zero-mul (s .args .blocks)), columns-none (rule s) _ _ _ (rw (c .wide .ensures) (s .pre .2))))
+    let s = start (c .before) in
+    (search needs, sym (zero-mul (s .args .blocks)), columns-none (rule s) _ _ _ (rw (c .before .wide .ensures) (s .pre .2))))
     (λ c κs. search needs)
     (λ c κs. search needs)
     (λ c. (search needs, omega (arith, c .before .before .before .row .inv .1), c .before .before .before .row .inv .2))
@@ -118,31 +141,29 @@ fill-shares-spec =
     let p = known s in
     let origins = origins-of o in
     (p .limit, few-rows s, omega (arith, p .sizes), omega arith, row-of i .row-test .taken, few (o .before), origins .long, origins .below))
+    (λ c. omega (arith, few-parties (parties-of (c .before .before .before .before))))
+    (λ c. sym (points-long (parties-of (c .before .before .before .before .before))))
     (λ c κs.
-    let o = c .before .before in
+    let o = c .before .before .before in
     let a = o .before .before in
-    let i = a .before in
-    let s = first i in
-    let w = row-of i .before .before in
-    let n-most : w .wide .result < 256 = omega (arith, w .wide .ensures, known s .sizes) in (
+    let i = a .before in (
       omega (arith, few (i .before .before .before)),
       any-length (Array (UInt w8) lanes) side (o .row-columns .result) _ (o .row-columns .ok),
-      n-most,
       run a .0,
       omega (arith, within a),
-      i .before .run .inv .2 .long,
+      i .before .run .inv .2 .long ∙ ap (λ (n : ℕ). n * (first i .args .s .rows * first i .args .blocks)) (sym (points-long (parties-of i))),
     ))
     (λ c.
-    let a = c .before .before .before .before .before .before .before in
+    let a = c .before .before .before .before .before .before .before .before in
     omega (arith, within a, small (first (a .before))))
     (λ c. search needs)
     (λ c.
-    let a = c .before .before .before .before .before .before .before in
+    let a = c .before .before .before .before .before .before .before .before in
     let h : 0 < a .run-of .result = run a .2 (omega arith) in
     omega arith)
     (λ c.
     let f = c .before .before in
-    let o = f .before .before .before in
+    let o = f .before .before .before .before in
     let a = o .before .before in
     let i = a .before in
     let l = i .before .run in
@@ -151,22 +172,23 @@ fill-shares-spec =
     let x = first i .args in (
       omega (arith, run a .1),
       omega (arith, l .inv .1),
-      strip-columns {f = rule (first i)} (l .inv .2) (f .fill-parties .ensures)
+      strip-columns {f = rule (first i)} (l .inv .2) (rw (points-long (parties-of i)) at (f .fill-parties .ensures))
           (λ b k hb hk.
-          run-byte (x .s .block) (x .s .rows) (x .s .z) (x .counts .now) (x .message .now) (x .keys .now) (x .blocks) (g .before .count-of .result)
-          (r .before .row .j) (l .t) (l .q) (b + 1) k (take (g .before .count-of .result) (o .row-columns .result))
+          rw (point-at (parties-of i) b hb)
+          (run-byte (x .s .block) (x .s .rows) (x .s .z) (x .counts .now) (x .message .now) (x .keys .now) (x .blocks) (g .before .count-of .result)
+          (r .before .row .j) (l .t) (l .q) (point (scheme (first i)) (b + 1)) k (take (g .before .count-of .result) (o .row-columns .result))
           (omega (arith, run a .0)) (omega (arith, run a .1)) (l .inv .1) (g .before .count-of .ensures)
-          (o .row-columns .ensures (x .counts .now) (origins-of g))),
+          (o .row-columns .ensures (x .counts .now) (origins-of g)))),
     ))
     (λ c. search needs)
     (λ c. search needs)
     (λ c. search needs)
     (λ c.
-    let w = c .before .before in
+    let w = c .before .before .before in
     let s = start w in
     c .before .row .inv .2 .long ∙ sym (rw (w .wide .ensures) (s .pre .2)))
     (λ c.
-    let w = c .before .before in
+    let w = c .before .before .before in
     let x = start w .args in
     let h : c .before .row .j ≡ x .s .rows = omega arith in
     columns-all {f = rule (start w)} (c .before .row .inv .2) (omega (arith, ap (λ (n : ℕ). n * x .blocks) h))

@@ -8,6 +8,7 @@ use borrow.Author.Needs.{needs}
 use Rattle.lists.specs.Table.{tabulate}
 use Rattle.interpolation.specs.Interpolation.{basisTable}
 use Rattle.staircase.specs.Parameters.{parameters}
+use Rattle.rows.proofs.Points.{points-are}
 use Rattle.reader.specs.Basis.{zeroTable, basisRefusal}
 use Rattle.reader.proofs.BasisAnswers.{table-none, parties-few, table-given}
 use Rattle.reader.proofs.bases.basis.Statement.{statement}
@@ -26,8 +27,11 @@ basis-spec =
     (tie.spec
     (λ c κs. search needs)
     (λ c. table-none _ _ _ (c .before .first-refusal .ensures) (c .if1 .taken))
-    (λ c κs. parties-few _ _ (none-of c))
+    (λ c κs. search needs)
     (λ c. omega (arith, parties-few _ _ (none-of (c .before))))
     (λ c. sym (length-take-le _ (c .before .points-of .result) (omega (arith, parties-few _ _ (none-of (c .before .before))))))
     (λ c κs. search needs)
-    (λ c. c .basis .ensures ∙ ap basisTable (c .before .before .points-of .ensures _) ∙ table-given _ _ (none-of (c .before .before .before))))
+    (λ c.
+    let p = c .before .before in
+    let none = none-of (p .before) in
+    c .basis .ensures ∙ ap basisTable (points-are _ _ _ (p .points-of .ensures _) (parties-few _ _ none)) ∙ table-given _ _ none))

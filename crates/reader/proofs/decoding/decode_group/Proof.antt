@@ -9,7 +9,7 @@ use native.Mathlib.Omega.{arith}
 use lib.ListN.{length, getD}
 use borrow.Author.Needs.{needs}
 use Rattle.scheme.specs.Check.{rowsOfCount}
-use Rattle.reader.specs.Decoding.{BasisOf, Sent, Found, rowsBefore}
+use Rattle.reader.specs.Decoding.{maxUsize, BasisOf, Sent, Found, rowsBefore}
 use Rattle.rows.specs.Sources.{RowOrigins}
 use Rattle.rows.proofs.Scheme.{facts-of, rows-high}
 use Rattle.rows.proofs.Laws.{row-origins}
@@ -59,11 +59,11 @@ module _ (c : tie.In-loop Inv-loop μ-loop) where
   -- the count after it, at most that of the whole group
   counted : (c .before .loop .used + st .args .d * st .args .blocks
       ≡ st .args .used .now + st .args .d * ((c .before .loop .j + 1 - rows .rows-before2 .result) * st .args .blocks))
-      × (c .before .loop .used + st .args .d * st .args .blocks ≤ 18446744073709551615)
+      × (c .before .loop .used + st .args .d * st .args .blocks ≤ maxUsize)
   counted =
       let a = st .args in
       counted-more (a .d) (a .blocks) (c .before .loop .used) (a .used .now) (rows .rows-before2 .result) (rows .before .rows-before .result)
-      (c .before .loop .j) 18446744073709551615 (c .before .loop .inv .0) (c .loop-test .taken) (c .before .loop .inv .2)
+      (c .before .loop .j) maxUsize (c .before .loop .inv .0) (c .loop-test .taken) (c .before .loop .inv .2)
       (counted-within (a .d) (a .blocks) (a .used .now) (rows .rows-before2 .ensures) (rows .before .rows-before .ensures) (st .pre .8))
 
 -- the places are the origins of its coefficients

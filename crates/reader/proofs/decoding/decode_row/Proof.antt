@@ -10,7 +10,7 @@ use lib.ListN.{length}
 use borrow.Author.Needs.{needs}
 use Rattle.gf256.specs.Lanes.{lanes}
 use Rattle.columns.proofs.Laws.{run-fits}
-use Rattle.reader.specs.Decoding.{BasisOf, RowOf, Holds, Solved}
+use Rattle.reader.specs.Decoding.{maxUsize, BasisOf, RowOf, Holds, Solved}
 use Rattle.reader.proofs.Writes.{solved-start, solved-run}
 use Rattle.reader.proofs.decoding.decode_row.Statement.{statement}
 use Rattle.reader.proofs.decoding.decode_row.Tie as tie
@@ -45,7 +45,7 @@ counted : (c : tie.After-run-of Inv-loop μ-loop)
     let d = s .args .sizes .d in
     let l = c .before .before .loop in
     (l .used + d * c .run-of .result ≡ s .args .used .now + d * (l .t + c .run-of .result))
-    × (l .used + d * c .run-of .result ≤ 18446744073709551615)
+    × (l .used + d * c .run-of .result ≤ maxUsize)
 counted c =
     let s = start (c .before .before .before) in
     let d = s .args .sizes .d in

@@ -9,7 +9,7 @@ use lib.ListN.{length}
 use borrow.Author.Needs.{needs}
 use Rattle.lists.proofs.Joined.{row-room}
 use Rattle.columns.proofs.Laws.{values-take}
-use Rattle.reader.specs.Decoding.{Rests}
+use Rattle.reader.specs.Decoding.{maxUsize, Rests}
 use Rattle.reader.proofs.Readings.{rests-none, rests-more}
 use Rattle.reader.proofs.decoding.rests.Statement.{statement}
 use Rattle.reader.proofs.decoding.rests.Tie as tie
@@ -32,7 +32,7 @@ inside c =
 -- the count after this party's part, at most that after all
 counted : (c : tie.In-loop Inv-loop μ-loop)
     → let a = c .before .before .before .before .args in
-    (c .before .loop .used + a .many ≡ a .used .now + (c .before .loop .a + 1) * a .many) × (c .before .loop .used + a .many ≤ 18446744073709551615)
+    (c .before .loop .used + a .many ≡ a .used .now + (c .before .loop .a + 1) * a .many) × (c .before .loop .used + a .many ≤ maxUsize)
 counted c =
     let s = c .before .before .before .before in
     let l = c .before .loop in

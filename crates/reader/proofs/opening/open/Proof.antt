@@ -12,6 +12,7 @@ use Rattle.lists.proofs.Each.{each-of}
 use Rattle.interpolation.specs.Interpolation.{side}
 use Rattle.staircase.specs.Parameters.{parameters}
 use Rattle.staircase.proofs.Sizes.{count-most, blocks-few}
+use Rattle.rows.proofs.Points.{points-are}
 use Rattle.reader.proofs.OpenerAnswers.{covers, fits-buffer}
 use Rattle.reader.proofs.Reading.{begins}
 use Rattle.reader.proofs.opening.open.Statement.{statement}
@@ -27,7 +28,7 @@ pub open-spec : {M : Type 1} → statement M
 open-spec =
     tie.close
     (tie.spec
-    (λ c κs. few-of c)
+    (λ c κs. search needs)
     (λ c. omega (arith, few-of (c .before)))
     (λ c. sym (length-take-le _ (c .before .points-of .result) (omega (arith, few-of (c .before .before)))))
     (λ c κs. search needs)
@@ -57,6 +58,6 @@ open-spec =
     let h = s .pre in
     let bytes = each-of Byte (a .prefixes .now) 0 (λ i l. o .before .before .shared-slice-known3 .given i .fits) in (
       f .open-into .ensures .0,
-      begins (a .s) _ (h .0) (a .parties .now) (h .1) (h .2) _ (a .blocks) (h .3) (h .4) (a .prefixes .now) (h .5) bytes _ _ (o .points-of .ensures _) (b .basis .ensures) _
+      begins (a .s) _ (h .0) (a .parties .now) (h .1) (h .2) _ (a .blocks) (h .3) (h .4) (a .prefixes .now) (h .5) bytes _ _ (points-are _ _ _ (o .points-of .ensures _) (few-of (o .before))) (b .basis .ensures) _
           (f .open-into .ensures .1),
     )))

@@ -1,0 +1,34 @@
+-- `rows::party_points` meets its contract. The invariant: the first i entries are the points of parties 1 to i, and the others 0. The measure is
+-- what is left of them.
+-- Assumes nothing.
+use Prim.Native.Nat.{_+_, _-_}
+use native.Mathlib.Omega.{arith}
+use borrow.Author.Needs.{needs}
+use Rattle.staircase.specs.Parameters.{Parameters}
+use Rattle.rows.specs.Points.{pointAt, partyPoints}
+use Rattle.rows.proofs.Collected.{Collected}
+use Rattle.rows.proofs.Points.{points-none, points-more, points-all}
+use Rattle.rows.proofs.party_points.Statement.{statement}
+use Rattle.rows.proofs.party_points.Tie as tie
+
+abbrev Inv-loop : tie.InvT-loop
+Inv-loop n points₀ end i₀ points i = (p : Parameters) → Collected (pointAt p n (λ k. k + 1)) i points
+
+abbrev μ-loop : tie.MeasureT-loop
+μ-loop n points₀ end i₀ points i = end - i
+
+pub party-points-spec : {M : Type 1} → statement M
+unfolding partyPoints
+party-points-spec =
+    tie.close
+    (tie.spec Inv-loop μ-loop
+    (λ c κs. search needs)
+    (λ c p. points-none _ _ _)
+    (λ c. search needs)
+    (λ c. search needs)
+    (λ c κs. search needs)
+    (λ c. search needs)
+    (λ c. search needs)
+    (λ c. search needs)
+    (λ c p. points-more _ _ _ (c .before .before .loop .inv p) (omega arith) (c .point-of .ensures p))
+    (λ c p. points-all _ _ _ (c .before .loop .inv p) (omega arith)))
