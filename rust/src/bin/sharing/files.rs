@@ -134,18 +134,30 @@ impl Output {
         written.map_err(|error| failed("write", &path, &error))
     }
 
-    /// Links the file to its name. That fails where another run has taken the name since it was looked at, while a
-    /// `rename` would overwrite that run's file.
+    /// Gives the file its name, and fails where another run has taken the name since it was looked at, while a `rename` alone
+    /// would overwrite that run's file. A link does it in one step.
     fn give_name(&mut self, name: &OsString) -> Result<(), Failure> {
         let (part, path) = (self.part(name), self.folder.join(name));
-        fs::hard_link(&part, &path).map_err(|error| match error.kind() {
-            ErrorKind::AlreadyExists => taken(&path),
-            _ => failed("write", &path, &error),
-        })?;
-        self.made.push(path.clone());
-        fs::remove_file(&part).map_err(|error| failed("write", &path, &error))?;
+        match fs::hard_link(&part, &path) {
+            Ok(()) => {
+                self.made.push(path.clone());
+                fs::remove_file(&part).map_err(|error| failed("write", &path, &error))?;
+            }
+            Err(error) if error.kind() == ErrorKind::AlreadyExists => return Err(taken(&path)),
+            Err(_) => self.take_name(&part, &path)?,
+        }
         self.made.retain(|made| *made != part);
         Ok(())
+    }
+
+    /// The same on a file system without links, as many sticks have: an empty file takes the name, and is replaced.
+    fn take_name(&mut self, part: &Path, path: &Path) -> Result<(), Failure> {
+        OpenOptions::new().write(true).create_new(true).open(path).map_err(|error| match error.kind() {
+            ErrorKind::AlreadyExists => taken(path),
+            _ => failed("write", path, &error),
+        })?;
+        self.made.push(path.to_path_buf());
+        fs::rename(part, path).map_err(|error| failed("write", path, &error))
     }
 
     pub fn keep(mut self) {
