@@ -5,7 +5,7 @@ use mathlib.Core.Path.{_≡_, refl, sym, ap, ap₂, _∙_}
 use mathlib.Core.List.{List}
 use mathlib.Core.Logic.{_≢_, ⊎-elim}
 use Prim.Native.Nat.{ℕ, zero, suc, _+_, _*_, _≤_, _<_}
-use native.Mathlib.Nat.{zero-lt-suc}
+use native.Mathlib.Nat.{zero-lt-suc, le-refl}
 use native.Mathlib.Omega.{arith}
 use lib.Dec.{ltb}
 use lib.ListN.{length, getD, length-set, length-map, List·getD-eq-default}
@@ -19,8 +19,8 @@ use Rattle.lists.proofs.Table.{length-tabulate, getD-tabulate, tabulate-same, t
 use Rattle.gf256.specs.Byte.{_⊕_}
 use Rattle.gf256.proofs.Laws.{⊕-back, ⊕-zero, zero-⊕, ⊕-byte}
 use Rattle.interpolation.specs.Polynomial.{eval, values, plus}
-use Rattle.interpolation.specs.Interpolation.{through}
-use Rattle.interpolation.proofs.Laws.{eval-plus, eval-byte, plus-at, plus-byte, plus-length-longer, through-values, through-length, through-byte, unique}
+use Rattle.interpolation.specs.Interpolation.{fitted}
+use Rattle.interpolation.proofs.Laws.{eval-plus, eval-byte, plus-at, plus-byte, plus-length-longer, interpolation}
 use Rattle.staircase.specs.Coefficients.{countOf, origin, coefficient}
 use Rattle.staircase.specs.Opening.{blockRow, upperPart, lowerPart, placed}
 use Rattle.staircase.proofs.Rows.{coefficient-byte}
@@ -84,11 +84,11 @@ coefficient-is-byte m z ds block keys j e hb hk =
 module _ (m z : ℕ) (ds xs : List ℕ) (v : ℕ → ℕ → ℕ) (block : List ℕ) (j : ℕ) where
   pub lower-length : length (lowerPart m z ds xs v block j) ≡ length xs
   unfolding lowerPart
-  lower-length = through-length xs _
+  lower-length = interpolation .exists-length (length xs) xs _ (le-refl (length xs))
 
   pub lower-byte : Each Byte (lowerPart m z ds xs v block j)
   unfolding lowerPart
-  lower-byte = through-byte xs _
+  lower-byte = interpolation .exists-byte (length xs) xs _
 
   pub lower-same : (block′ : List ℕ) → upperPart m z ds (length xs) block j ≡ upperPart m z ds (length xs) block′ j
       → lowerPart m z ds xs v block j ≡ lowerPart m z ds xs v block′ j
@@ -108,8 +108,8 @@ module _ (m z : ℕ) (ds xs : List ℕ) (v : ℕ → ℕ → ℕ) (block : List 
         let upper-bytes : Each Byte (upperPart m z ds (length xs) block j) = upper-byte m z ds (length xs) j block block-bytes in
         let vs-bytes : Each Byte vs
         = each-tabulate Byte (length xs) rest (λ c l. ⊕-byte (v j c) _ (vb c l) (eval-byte (getD xs c 0) (upperPart m z ds (length xs) block j) upper-bytes)) in
-        sym (getD-map {A = ℕ} {B = ℕ} (λ x. eval x (through xs vs)) xs a 0 0 h)
-        ∙ ap (λ (l : List ℕ). getD l a 0) (through-values xs vs bytes apart (length-tabulate (length xs) rest) vs-bytes)
+        sym (getD-map {A = ℕ} {B = ℕ} (λ x. eval x (fitted (length xs) xs vs)) xs a 0 0 h)
+        ∙ ap (λ (l : List ℕ). getD l a 0) (interpolation .exists (length xs) xs vs bytes apart (length-tabulate (length xs) rest) vs-bytes)
         ∙ getD-tabulate (length xs) rest a 0 h
 
     -- it gives the row its values
@@ -131,7 +131,7 @@ module _ (m z : ℕ) (ds xs : List ℕ) (v : ℕ → ℕ → ℕ) (block : List 
         let upper-bytes : Each Byte upper = upper-byte m z ds (length xs) j block block-bytes in
         let vb : (a : ℕ) → a < length xs → Byte (v j a)
         = λ a h. rw (← has a h) (eval-byte (getD xs a 0) (plus lower upper) (plus-byte lower upper lb upper-bytes)) in
-        unique xs lower found bytes apart lb lower-byte (long ∙ sym lower-length) (omega arith)
+        interpolation .unique xs lower found bytes apart lb lower-byte (long ∙ sym lower-length) (omega arith)
         (ext-getD 0 (values xs lower) (values xs found) (length-map xs (λ x. eval x lower) ∙ sym (length-map xs (λ x. eval x found)))
         (λ a b.
         let h : a < length xs = rw (length-map xs (λ x. eval x lower)) at b in

@@ -21,7 +21,7 @@ use Rattle.gf256.specs.Byte.{_⊕_, _⊗_}
 use Rattle.gf256.proofs.Laws.{⊕-assoc, ⊕-self, ⊕-zero, ⊕-byte, ⊗-byte}
 use Rattle.interpolation.specs.Polynomial.{eval, plus}
 use Rattle.interpolation.specs.Interpolation.{fitted}
-use Rattle.interpolation.proofs.Laws.{eval-append, eval-plus, eval-byte, plus-at, plus-length, fitted-values, fitted-length, fitted-byte}
+use Rattle.interpolation.proofs.Laws.{eval-append, eval-plus, eval-byte, plus-at, plus-length, interpolation}
 use Rattle.family.specs.Message.{Bytes}
 use Rattle.family.specs.Secrecy.{sum, Mask}
 use Rattle.family.proofs.Sum.{length-sum, getD-sum, piece-sum}
@@ -51,7 +51,7 @@ row-value z x keys rest e h = rw e at (eval-append x keys rest (eval-byte x rest
 module _ (z : ℕ) (xs : List ℕ) (bytes : Each Byte xs) (apart : Distinct xs) (few : length xs ≤ z) (rest₁ rest₂ : List ℕ) (h₁ : Each Byte rest₁) (h₂ : Each Byte rest₂) where
   row-mask-bytes : Bytes z (rowMask z xs rest₁ rest₂)
   unfolding rowMask
-  row-mask-bytes = (fitted-length z xs _ few, fitted-byte z xs _)
+  row-mask-bytes = (interpolation .exists-length z xs _ few, interpolation .exists-byte z xs _)
 
   -- the mask's value at each point is the difference
   row-mask-value : Each (λ x. eval x (rowMask z xs rest₁ rest₂) ≡ upper z rest₁ x ⊕ upper z rest₂ x) xs
@@ -63,7 +63,7 @@ module _ (z : ℕ) (xs : List ℕ) (bytes : Each Byte xs) (apart : Distinct xs) 
       (λ i h.
       let l : i < length xs = rw (length-map xs f) at h in
       rw (getD-map {A = ℕ} {B = ℕ} f xs i 0 0 l) (⊕-byte (upper z rest₁ (getD xs i 0)) (upper z rest₂ (getD xs i 0)) (⊗-byte _ _) (⊗-byte _ _))) in
-      map-each {A = ℕ} {B = ℕ} (λ x. eval x (fitted z xs (map f xs))) f xs (fitted-values z xs (map f xs) bytes apart (length-map xs f) fb)
+      map-each {A = ℕ} {B = ℕ} (λ x. eval x (fitted z xs (map f xs))) f xs (interpolation .exists z xs (map f xs) bytes apart (length-map xs f) fb)
 
   row-same : (keys : List ℕ) → length keys ≡ z → Each (λ x. eval x (keys ++ rest₁) ≡ eval x (sum keys (rowMask z xs rest₁ rest₂) ++ rest₂)) xs
   row-same keys e =

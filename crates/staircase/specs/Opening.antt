@@ -11,7 +11,7 @@ use Rattle.lists.specs.Each.{Byte}
 use Rattle.lists.specs.Table.{tabulate}
 use Rattle.gf256.specs.Byte.{_⊕_}
 use Rattle.interpolation.specs.Polynomial.{eval}
-use Rattle.interpolation.specs.Interpolation.{through}
+use Rattle.interpolation.specs.Interpolation.{fitted}
 use Rattle.scheme.specs.Check.{rowsOfCount}
 use Rattle.family.specs.Message.{Bytes}
 use Rattle.staircase.specs.Coefficients.{countOf, origin, coefficient}
@@ -28,7 +28,7 @@ upperPart m z ds d block j = tabulate (countOf m z ds j) (λ e. cond (ltb e d) 0
 -- the values is taken away, and the polynomial through the points found
 unfoldable pub lowerPart : ℕ → ℕ → List ℕ → List ℕ → (ℕ → ℕ → ℕ) → List ℕ → ℕ → List ℕ
 lowerPart m z ds xs v block j =
-    through xs (tabulate (length xs) (λ a. v j a ⊕ eval (getD xs a 0) (upperPart m z ds (length xs) block j)))
+    fitted (length xs) xs (tabulate (length xs) (λ a. v j a ⊕ eval (getD xs a 0) (upperPart m z ds (length xs) block j)))
 
 -- the block with the coefficients of row j of the degrees z to z + many − 1 written to their origins
 unfoldable pub placed : ℕ → ℕ → List ℕ → ℕ → List ℕ → ℕ → List ℕ → List ℕ
