@@ -79,9 +79,10 @@ module _ (m b z : ℕ) (ds xs : List ℕ) (v : ℕ → ℕ → ℕ) (O : Order m
       upper-same m z ds (length xs) j later block
       (λ e l u.
       let s = O .again j e h l u in
+      let past : suc j ≤ s .row = omega (arith, O .own j h, s .past) in
       ap (λ (p : ℕ). getD later p 0) (sym (s .is))
-      ∙ opened-at (P - suc j) (suc j) (omega arith) (s .row) (s .degree) (s .past) (s .within) (s .low) (s .high)
-      ∙ same (s .row) (s .degree) (s .past) (s .within) (s .low) (s .high)
+      ∙ opened-at (P - suc j) (suc j) (omega arith) (s .row) (s .degree) past (s .within) (s .low) (s .high)
+      ∙ same (s .row) (s .degree) past (s .within) (s .low) (s .high)
       ∙ ap (λ (p : ℕ). getD block p 0) (s .is))
 
   -- ---- the opened block and keys

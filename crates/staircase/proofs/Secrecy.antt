@@ -17,7 +17,7 @@ use Rattle.lists.proofs.Each.{each-getD, each-of, each-imp, each-map, map-each,
 use Rattle.lists.proofs.Table.{length-tabulate, getD-tabulate, tabulate-same, tabulate-is, map-tabulate}
 use Rattle.lists.proofs.Joined.{length-joined, piece-joined}
 use Rattle.lists.proofs.Piece.{length-piece, getD-piece}
-use Rattle.gf256.specs.Byte.{_⊕_, _⊗_}
+use Rattle.gf256.specs.Byte.{_⊕_}
 use Rattle.gf256.proofs.Laws.{⊕-assoc, ⊕-self, ⊕-zero, ⊕-byte, ⊗-byte}
 use Rattle.interpolation.specs.Polynomial.{eval, plus}
 use Rattle.interpolation.specs.Interpolation.{fitted}
