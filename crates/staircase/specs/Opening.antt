@@ -10,7 +10,7 @@ use lib.ListN.{length, getD, set, replicate}
 use Rattle.lists.specs.Each.{Byte}
 use Rattle.lists.specs.Table.{tabulate}
 use Rattle.gf256.specs.Byte.{_⊕_}
-use Rattle.interpolation.specs.Polynomial.{eval}
+use Rattle.interpolation.specs.Polynomial.{eval, above}
 use Rattle.interpolation.specs.Interpolation.{fitted}
 use Rattle.scheme.specs.Check.{rowsOfCount}
 use Rattle.family.specs.Message.{Bytes}
@@ -22,7 +22,7 @@ blockRow m z ds block keys j = tabulate (countOf m z ds j) (coefficient m z ds b
 
 -- its coefficients of degree d and more, message bytes all, with zeros at the degrees below
 unfoldable pub upperPart : ℕ → ℕ → List ℕ → ℕ → List ℕ → ℕ → List ℕ
-upperPart m z ds d block j = tabulate (countOf m z ds j) (λ e. cond (ltb e d) 0 (getD block (origin m z ds j e) 0))
+upperPart m z ds d block j = above d (tabulate (countOf m z ds j) (λ e. getD block (origin m z ds j e) 0))
 
 -- its coefficients below degree d, from its values v j a at the d points, where the block holds the upper ones: what the upper ones add to
 -- the values is taken away, and the polynomial through the points found
