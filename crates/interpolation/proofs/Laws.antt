@@ -5,5 +5,5 @@ pub use Rattle.interpolation.proofs.Polynomial.{plus-at, plus-byte, plu
 pub use Rattle.interpolation.proofs.Polynomial.{linear-first, linear-next, linear-byte, linear-length, product-byte, product-length, product-next, product-zero, product-nonzero}
 pub use Rattle.interpolation.proofs.Above.{above-byte, above-is, above-same, above-none, plus-above, lower-value}
 pub use Rattle.interpolation.proofs.Through.{interpolation}
-pub use Rattle.interpolation.proofs.Lagrange.{basis-length, basis-byte, basis-rule, basis-at, basis-unique, basis-formula, sumTo-same, sumTo-zero, sumTo-one, interpolate-back}
+pub use Rattle.interpolation.proofs.Lagrange.{unit-values, basis-length, basis-byte, basis-rule, basis-at, basis-unique, basis-formula, sumTo-same, sumTo-zero, sumTo-one, interpolate-back}
 pub use Rattle.interpolation.proofs.Weights.{weight-within, weight-beyond, weight-too-many, weight-not-distinct, table-at}
