@@ -166,7 +166,7 @@ module _ (m z : ℕ) (ds : List ℕ) (j : ℕ) (lower : List ℕ) where
       → ((k l : ℕ) → k < many → l < many → origin m z ds j (z + k) ≡ origin m z ds j (z + l) → k ≡ l)
       → (k : ℕ) → k < many → getD (placed m z ds j lower many block) (origin m z ds j (z + k)) 0 ≡ getD lower (z + k) 0
   unfolding placed
-  placed-at zero block inside once k h = absurd (let x : ⊥ = omega arith in x)
+  placed-at zero block inside once k h = absurd (omega arith)
   placed-at (suc many) block inside once k h =
       let before : List ℕ = placed m z ds j lower many block in
       let value : ℕ = getD lower (z + many) 0 in

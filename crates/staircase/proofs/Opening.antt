@@ -49,7 +49,7 @@ module _ (m b z : ℕ) (ds xs : List ℕ) (v : ℕ → ℕ → ℕ) (O : Order m
   opened-at : (many j : ℕ) → j + many ≡ P → (k e : ℕ) → j ≤ k → k < P → z ≤ e → e < length xs
       → getD (openedFrom m z ds xs v j many) (origin m z ds k e) 0 ≡ getD (openedLower m z ds xs v k) e 0
   unfolding openedFrom openedLower
-  opened-at zero j all k e from h low high = absurd (let x : ⊥ = omega arith in x)
+  opened-at zero j all k e from h low high = absurd (omega arith)
   opened-at (suc many) j all k e from h low high =
       let later : List ℕ = openedFrom m z ds xs v (suc j) many in
       let lower : List ℕ = lowerPart m z ds xs v later j in
@@ -148,7 +148,7 @@ module _ (m b z : ℕ) (ds xs : List ℕ) (v : ℕ → ℕ → ℕ) (O : Order m
       found : (left j e : ℕ) → P ≤ j + left → j < P → e < length xs
           → getD (openedLower m z ds xs v j) e 0 ≡ coefficient m z ds block keys j e
       unfolding openedLower
-      found zero j e l h u = absurd (let x : ⊥ = omega arith in x)
+      found zero j e l h u = absurd (omega arith)
       found (suc left) j e l h u =
           let upper =
           known block j h (λ k c more end low high. found left k c (omega arith) end high ∙ coefficient-byte m z ds block keys k c low) in
@@ -177,13 +177,6 @@ block-exact n r z ds m b A i hi xs bytes apart long =
     let O : Order m b z ds (length xs) (rowsOfCount m z (length xs))
     = order n r z ds m b A i (length xs) (rowsOfCount m z (length xs)) hi long refl in
     record {
-      unique =
-          λ v block keys block′ keys′ hb hk hb′ hk′ has has′.
-          sym (returns m b z ds xs v O bytes apart block keys hb hk has) ∙ returns m b z ds xs v O bytes apart block′ keys′ hb′ hk′ has′;
-      keys-unique =
-          λ v block keys block′ keys′ hb hk hb′ hk′ has has′ j e h l.
-          sym (keys-return m b z ds xs v O bytes apart block keys hb hk has j e h l)
-          ∙ keys-return m b z ds xs v O bytes apart block′ keys′ hb′ hk′ has′ j e h l;
       exists = λ v. exists m b z ds xs v O bytes apart;
       block-bytes = λ v. block-bytes m b z ds xs v O;
       keys-bytes = λ v. keys-bytes m b z ds xs v O;

@@ -87,8 +87,8 @@ module _ (n r z : ℕ) (ds : List ℕ) (m b : ℕ) (A : facts.Accepted n r z ds 
   -- any bound above the row gives the same
   same-in : (f k j e : ℕ) → j < b → e < countOf m z ds j → j < f → j < k → originIn m z ds f j e ≡ originIn m z ds k j e
   unfolding countOf
-  same-in zero k j e hj he hf hk = absurd (let x : ⊥ = omega arith in x)
-  same-in (suc f) zero j e hj he hf hk = absurd (let x : ⊥ = omega arith in x)
+  same-in zero k j e hj he hf hk = absurd (omega arith)
+  same-in (suc f) zero j e hj he hf hk = absurd (omega arith)
   same-in (suc f) (suc k) j e hj he hf hk =
       let i : ℕ = groupOf m z ds j in
       let d : ℕ = getD ds i 0 in
@@ -123,7 +123,7 @@ module _ (n r z : ℕ) (ds : List ℕ) (m b : ℕ) (A : facts.Accepted n r z ds 
 
   below-in : (bound j e : ℕ) → j < bound → j < b → e < countOf m z ds j → origin m z ds j e < m
   unfolding countOf
-  below-in zero j e l hj he = absurd (let x : ⊥ = omega arith in x)
+  below-in zero j e l hj he = absurd (omega arith)
   below-in (suc bound) j e l hj he =
       let i : ℕ = groupOf m z ds j in
       let d : ℕ = getD ds i 0 in

@@ -60,18 +60,13 @@ abbrev pub HasValues : ℕ → ℕ → List ℕ → List ℕ → (ℕ → ℕ �
 HasValues m z ds xs v block keys =
     (j a : ℕ) → j < rowsOfCount m z (length xs) → a < length xs → eval (getD xs a 0) (blockRow m z ds block keys j) ≡ v j a
 
--- the values of the P rows at the points fix the block and the keys of these rows, any bytes are such values, and the opening finds them
+-- any bytes are the values at the points of the P rows of the opened block, and such values fix the block and the keys of these rows
 pub record BlockExact (m b z : ℕ) (ds xs : List ℕ) : Type 0 where
-  pub unique : (v : ℕ → ℕ → ℕ) (block keys block′ keys′ : List ℕ) → Bytes m block → Bytes (b * z) keys → Bytes m block′ → Bytes (b * z) keys′
-      → HasValues m z ds xs v block keys → HasValues m z ds xs v block′ keys′ → block ≡ block′
-  pub keys-unique : (v : ℕ → ℕ → ℕ) (block keys block′ keys′ : List ℕ) → Bytes m block → Bytes (b * z) keys → Bytes m block′ → Bytes (b * z) keys′
-      → HasValues m z ds xs v block keys → HasValues m z ds xs v block′ keys′
-      → (j e : ℕ) → j < rowsOfCount m z (length xs) → e < z → getD keys (j * z + e) 0 ≡ getD keys′ (j * z + e) 0
   pub exists : (v : ℕ → ℕ → ℕ) → ((j a : ℕ) → j < rowsOfCount m z (length xs) → a < length xs → Byte (v j a))
       → HasValues m z ds xs v (openedBlock m z ds xs v) (openedKeys m b z ds xs v)
   pub block-bytes : (v : ℕ → ℕ → ℕ) → Bytes m (openedBlock m z ds xs v)
   pub keys-bytes : (v : ℕ → ℕ → ℕ) → Bytes (b * z) (openedKeys m b z ds xs v)
-  -- so the values of a block's rows open to the block, and to the keys of these rows
+  -- the values of a block's rows open to the block, and to the keys of these rows
   pub returns : (v : ℕ → ℕ → ℕ) (block keys : List ℕ) → Bytes m block → Bytes (b * z) keys → HasValues m z ds xs v block keys
       → openedBlock m z ds xs v ≡ block
   pub keys-return : (v : ℕ → ℕ → ℕ) (block keys : List ℕ) → Bytes m block → Bytes (b * z) keys → HasValues m z ds xs v block keys
