@@ -9,17 +9,17 @@ use native.Mathlib.Nat.{zero-lt-suc, le-refl}
 use native.Mathlib.Omega.{arith}
 use lib.Dec.{ltb}
 use lib.ListN.{length, getD, take, length-set, length-map}
-use lib.Seq.{ext-getD, getD-take, length-take-le, getD-set-same, getD-set-other}
+use lib.Seq.{getD-take, length-take-le, getD-set-same, getD-set-other}
 use Rattle.lists.specs.Each.{Each, Distinct, Byte}
 use Rattle.lists.specs.Table.{tabulate}
 use Rattle.lists.proofs.Tests.{lt-or-le, cond-ind}
-use Rattle.lists.proofs.Each.{each-at, each-set, each-take, each-tabulate, getD-map}
-use Rattle.lists.proofs.Table.{length-tabulate, getD-tabulate}
+use Rattle.lists.proofs.Each.{each-at, each-imp, each-mapped, each-set, each-take, each-tabulate, getD-map}
+use Rattle.lists.proofs.Table.{length-tabulate, getD-tabulate, tabulate-is}
 use Rattle.gf256.specs.Byte.{_⊕_}
 use Rattle.gf256.proofs.Laws.{⊕-back, ⊕-byte}
 use Rattle.interpolation.specs.Polynomial.{eval, values, plus}
 use Rattle.interpolation.specs.Interpolation.{fitted}
-use Rattle.interpolation.proofs.Laws.{eval-plus, eval-byte, plus-byte, above-byte, above-same, plus-above, interpolation}
+use Rattle.interpolation.proofs.Laws.{eval-plus, eval-byte, above-byte, above-same, plus-above, interpolation}
 use Rattle.staircase.specs.Coefficients.{countOf, origin, coefficient}
 use Rattle.staircase.specs.Opening.{blockRow, upperPart, lowerPart, placed}
 use Rattle.staircase.proofs.Rows.{coefficient-byte}
@@ -111,22 +111,21 @@ module _ (m z : ℕ) (ds xs : List ℕ) (v : ℕ → ℕ → ℕ) (block : List 
     pub lower-unique : (lower : List ℕ) → length lower ≡ length xs → Each Byte lower
         → ((a : ℕ) → a < length xs → eval (getD xs a 0) (plus lower (upperPart m z ds (length xs) block j)) ≡ v j a)
         → lower ≡ lowerPart m z ds xs v block j
+    unfolding lowerPart rest
     lower-unique lower long lb has =
         let upper : List ℕ = upperPart m z ds (length xs) block j in
-        let found : List ℕ = lowerPart m z ds xs v block j in
-        let upper-bytes : Each Byte upper = upper-byte m z ds (length xs) j block block-bytes in
-        let vb : (a : ℕ) → a < length xs → Byte (v j a)
-        = λ a h. rw (← has a h) (eval-byte (getD xs a 0) (plus lower upper) (plus-byte lower upper lb upper-bytes)) in
-        interpolation .unique xs lower found bytes apart lb lower-byte (long ∙ sym lower-length) (omega arith)
-        (ext-getD 0 (values xs lower) (values xs found) (length-map xs (λ x. eval x lower) ∙ sym (length-map xs (λ x. eval x found)))
-        (λ a b.
-        let h : a < length xs = rw (length-map xs (λ x. eval x lower)) at b in
+        let vs : List ℕ = tabulate (length xs) rest in
+        let same : values xs lower ≡ vs =
+        tabulate-is (values xs lower) (length xs) rest 0 (length-map xs (λ x. eval x lower))
+        (λ a h.
         let x : ℕ = getD xs a 0 in
         getD-map {A = ℕ} {B = ℕ} (λ y. eval y lower) xs a 0 0 h
         ∙ sym (⊕-back (eval x lower) (eval x upper))
-        ∙ ap (λ (w : ℕ). w ⊕ eval x upper) (sym (eval-plus x lower upper) ∙ has a h)
-        ∙ sym (lower-at vb a h)
-        ∙ sym (getD-map {A = ℕ} {B = ℕ} (λ y. eval y found) xs a 0 0 h)))
+        ∙ ap (λ (w : ℕ). w ⊕ eval x upper) (sym (eval-plus x lower upper) ∙ has a h)) in
+        let vs-bytes : Each Byte vs
+        = rw (← same) (each-mapped Byte (λ x. eval x lower) xs (each-imp Byte _ (λ x _. eval-byte x lower lb) xs bytes)) in
+        interpolation .unique xs lower (fitted (length xs) xs vs) bytes apart lb lower-byte (long ∙ sym lower-length) (omega arith)
+        (same ∙ sym (interpolation .exists (length xs) xs vs bytes apart (length-tabulate (length xs) rest) vs-bytes))
 
     -- so, where the row has the values, it is the row's lower coefficients
     pub lower-found : (keys : List ℕ) → Each Byte keys → z ≤ length xs → length xs ≤ countOf m z ds j

@@ -10,7 +10,7 @@ use lib.ListN.{length, getD, length-map}
 use lib.Seq.{ext-getD}
 use Rattle.lists.specs.Each.{Each, Distinct, Byte}
 use Rattle.lists.specs.Table.{piece}
-use Rattle.lists.proofs.Each.{each-getD, each-of, each-imp, each-map, map-each, each-joined, each-tabulate, each-at, getD-map}
+use Rattle.lists.proofs.Each.{each-getD, each-of, each-imp, each-map, each-mapped, map-each, each-joined, each-tabulate, each-at, getD-map}
 use Rattle.lists.proofs.Table.{length-tabulate, getD-tabulate, tabulate-same, map-tabulate}
 use Rattle.lists.proofs.Joined.{length-joined, piece-joined}
 use Rattle.lists.proofs.Piece.{length-piece, getD-piece}
@@ -58,10 +58,7 @@ module _ (z : ℕ) (xs : List ℕ) (bytes : Each Byte xs) (apart : Distinct xs) 
   row-mask-value =
       let f : ℕ → ℕ = λ x. upper z rest₁ x ⊕ upper z rest₂ x in
       let fb : Each Byte (map f xs) =
-      each-of {A = ℕ} Byte (map f xs) 0
-      (λ i h.
-      let l : i < length xs = rw (length-map xs f) at h in
-      rw (getD-map {A = ℕ} {B = ℕ} f xs i 0 0 l) (⊕-byte (upper z rest₁ (getD xs i 0)) (upper z rest₂ (getD xs i 0)) (⊗-byte _ _) (⊗-byte _ _))) in
+      each-mapped {A = ℕ} {B = ℕ} Byte f xs (each-imp {A = ℕ} Byte _ (λ x _. ⊕-byte (upper z rest₁ x) (upper z rest₂ x) (⊗-byte _ _) (⊗-byte _ _)) xs bytes) in
       map-each {A = ℕ} {B = ℕ} (λ x. eval x (fitted z xs (map f xs))) f xs (interpolation .exists z xs (map f xs) bytes apart (length-map xs f) fb)
 
   row-same : (keys : List ℕ) → length keys ≡ z → Each (λ x. eval x (rowOf keys rest₁) ≡ eval x (rowOf (sum keys (rowMask z xs rest₁ rest₂)) rest₂)) xs
