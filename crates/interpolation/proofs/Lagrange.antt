@@ -40,7 +40,7 @@ unfolding unit
 unit-byte n i = each-tabulate Byte n (λ k. cond (eqb k i) 1 0) (λ k h. cond-ind Byte {t = eqb k i} {a = 1} {b = 0} (λ e. lit< tt) (λ e. lit< tt))
 
 -- a polynomial with these values at the points has them as a list
-unit-values : (ps cs : List ℕ) (i : ℕ) → ((j : ℕ) → j < length ps → eval (getD ps j 0) cs ≡ cond (eqb j i) 1 0) → values ps cs ≡ unit (length ps) i
+pub unit-values : (ps cs : List ℕ) (i : ℕ) → ((j : ℕ) → j < length ps → eval (getD ps j 0) cs ≡ cond (eqb j i) 1 0) → values ps cs ≡ unit (length ps) i
 unfolding unit
 unit-values ps cs i h =
     tabulate-is (values ps cs) (length ps) (λ k. cond (eqb k i) 1 0) 0 (length-map ps (λ x. eval x cs))

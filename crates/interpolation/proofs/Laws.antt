@@ -3,7 +3,7 @@
 pub use Rattle.interpolation.proofs.Polynomial.{eval-plus, eval-scale, eval-zeros, eval-append, eval-append-zeros, eval-linear, eval-none, eval-more, eval-down, eval-byte}
 pub use Rattle.interpolation.proofs.Polynomial.{plus-at, plus-byte, plus-length, plus-length-longer, scale-at, scale-byte, scale-length}
 pub use Rattle.interpolation.proofs.Polynomial.{linear-first, linear-next, linear-byte, linear-length, product-byte, product-length, product-next, product-zero, product-nonzero}
-pub use Rattle.interpolation.proofs.Unique.{unique}
-pub use Rattle.interpolation.proofs.Through.{through-byte, through-length, through-values, fitted-values, fitted-length, fitted-byte, interpolation}
-pub use Rattle.interpolation.proofs.Lagrange.{basis-length, basis-byte, basis-rule, basis-at, basis-unique, basis-formula, sumTo-same, sumTo-zero, sumTo-one, interpolate-back}
+pub use Rattle.interpolation.proofs.Above.{above-byte, above-is, above-same, above-none, plus-above, lower-value}
+pub use Rattle.interpolation.proofs.Through.{interpolation}
+pub use Rattle.interpolation.proofs.Lagrange.{unit-values, basis-length, basis-byte, basis-rule, basis-at, basis-unique, basis-formula, sumTo-same, sumTo-zero, sumTo-one, interpolate-back}
 pub use Rattle.interpolation.proofs.Weights.{weight-within, weight-beyond, weight-too-many, weight-not-distinct, table-at}

@@ -1,4 +1,5 @@
 mod Polynomial
+mod Above
 mod Unique
 mod Through
 mod Lagrange

@@ -77,15 +77,15 @@ through-values (p ∷ ps) (v ∷ vs) b d n h = ap₂ _∷_ own (others ps (produ
 
 -- ---- with zeros up to z coefficients
 
-pub fitted-values : (z : ℕ) (ps vs : List ℕ) → Each Byte ps → Distinct ps → length vs ≡ length ps → Each Byte vs → values ps (fitted z ps vs) ≡ vs
+fitted-values : (z : ℕ) (ps vs : List ℕ) → Each Byte ps → Distinct ps → length vs ≡ length ps → Each Byte vs → values ps (fitted z ps vs) ≡ vs
 unfolding fitted
 fitted-values z ps vs b d n h = simp (eval-append-zeros) (through-values ps vs b d n h)
 
-pub fitted-length : (z : ℕ) (ps vs : List ℕ) → length ps ≤ z → length (fitted z ps vs) ≡ z
+fitted-length : (z : ℕ) (ps vs : List ℕ) → length ps ≤ z → length (fitted z ps vs) ≡ z
 unfolding fitted
 fitted-length z ps vs h = simp (length-append, length-replicate, through-length) (omega arith)
 
-pub fitted-byte : (z : ℕ) (ps vs : List ℕ) → Each Byte (fitted z ps vs)
+fitted-byte : (z : ℕ) (ps vs : List ℕ) → Each Byte (fitted z ps vs)
 unfolding fitted
 fitted-byte z ps vs = each-append Byte (through ps vs) _ (through-byte ps vs) (each-replicate Byte (z - length ps) 0 (lit< tt))
 
@@ -95,7 +95,7 @@ pub interpolation : Interpolation
 interpolation =
     record {
       unique = unique;
-      exists = λ z ps vs b d le n h. fitted-values z ps vs b d n h;
+      exists = fitted-values;
       exists-length = fitted-length;
       exists-byte = fitted-byte;
     }

@@ -23,12 +23,12 @@ through (p ∷ ps) vs =
 unfoldable pub fitted : ℕ → List ℕ → List ℕ → List ℕ
 fitted z ps vs = through ps vs ++ replicate (z - length ps) 0
 
--- the one fact about interpolation: at distinct bytes, a polynomial with no more coefficients than points is one, and one with no fewer exists
+-- the one fact about interpolation: at distinct bytes, the values fix a polynomial with no more coefficients than points, and for any values at
+-- no more than z points there is one with z coefficients
 pub record Interpolation : Type 0 where
   pub unique : (ps cs ds : List ℕ) → Each Byte ps → Distinct ps → Each Byte cs → Each Byte ds → length cs ≡ length ds → length cs ≤ length ps
       → values ps cs ≡ values ps ds → cs ≡ ds
-  pub exists : (z : ℕ) (ps vs : List ℕ) → Each Byte ps → Distinct ps → length ps ≤ z → length vs ≡ length ps → Each Byte vs
-      → values ps (fitted z ps vs) ≡ vs
+  pub exists : (z : ℕ) (ps vs : List ℕ) → Each Byte ps → Distinct ps → length vs ≡ length ps → Each Byte vs → values ps (fitted z ps vs) ≡ vs
   pub exists-length : (z : ℕ) (ps vs : List ℕ) → length ps ≤ z → length (fitted z ps vs) ≡ z
   pub exists-byte : (z : ℕ) (ps vs : List ℕ) → Each Byte (fitted z ps vs)
 

@@ -28,6 +28,12 @@ unfoldable pub scale : ℕ → List ℕ → List ℕ
 scale k [] = []
 scale k (c ∷ cs) = (k ⊗ c) ∷ scale k cs
 
+-- the upper part: the coefficients of degree d and more, zeros at the degrees below
+unfoldable pub above : ℕ → List ℕ → List ℕ
+above zero cs = cs
+above (suc d) [] = []
+above (suc d) (c ∷ cs) = 0 ∷ above d cs
+
 -- low, plus (x + p) times a polynomial: one coefficient longer
 unfoldable pub linear : ℕ → ℕ → List ℕ → List ℕ
 linear p low [] = low ∷ []

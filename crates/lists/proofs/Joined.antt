@@ -4,7 +4,7 @@ use mathlib.Core.Path.{_≡_, refl, sym, ap, _∙_}
 use mathlib.Core.List.{List}
 use mathlib.Core.Logic.{⊎-elim}
 use Prim.Native.Nat.{ℕ, zero, suc, _+_, _*_, _/_, _%_, _≤_, _<_, zero-le}
-use native.Mathlib.Nat.{add-zero, add-mul, zero-mul, suc-mul, mul-zero, le-refl, le-step, le-of-eq, lt-of-le-of-lt, eq-or-lt-of-le, le-of-suc-le-suc, not-suc-le-zero, mul-le-mul-right, eq-zero-or-pos}
+use native.Mathlib.Nat.{add-zero, add-mul, mul-assoc, zero-mul, suc-mul, mul-zero, le-refl, le-step, le-of-eq, lt-of-le-of-lt, eq-or-lt-of-le, le-of-suc-le-suc, not-suc-le-zero, mul-le-mul-right, eq-zero-or-pos}
 use native.Mathlib.Nat.{mul-add-div-right, div-eq-of-lt, mul-add-mod-self-right, mod-eq-of-lt, div-lt-iff-lt-mul, mod-lt, div-add-mod'}
 use native.Mathlib.Omega.{arith}
 use lib.Arith.{digits-lt, digits-div, digits-mod}
@@ -42,6 +42,10 @@ same-place i k i′ k′ m h h′ e =
 -- the same place in the row, k rows on
 pub place-on : (i k e m : ℕ) → i * m + e + k * m ≡ (i + k) * m + e
 place-on i k e m = omega (arith, add-mul i k m)
+
+-- a place in row i of part t, of parts of n rows
+pub place-in : (t n i k m : ℕ) → t * (n * m) + (i * m + k) ≡ (t * n + i) * m + k
+place-in t n i k m = omega (arith, add-mul (t * n) i m, mul-assoc t n m)
 
 -- ---- lists one after another, each of m entries
 

@@ -13,11 +13,11 @@ use lib.Seq.{ext-getD, getD-take, length-take-le}
 use Rattle.lists.specs.Each.{Each, Distinct, Byte}
 use Rattle.lists.specs.Table.{tabulate}
 use Rattle.lists.proofs.Each.{getD-map, true-distinct}
-use Rattle.lists.proofs.Table.{length-tabulate, getD-tabulate, tabulate-is}
+use Rattle.lists.proofs.Table.{length-tabulate, getD-tabulate}
 use Rattle.lists.proofs.Tests.{lt-or-le}
 use Rattle.interpolation.specs.Polynomial.{eval, values}
 use Rattle.interpolation.specs.Interpolation.{side, unit, basis, weight, basisTable}
-use Rattle.interpolation.proofs.Laws.{basis-length, basis-at, basis-unique, weight-within, weight-beyond, table-at}
+use Rattle.interpolation.proofs.Laws.{unit-values, basis-length, basis-at, basis-unique, weight-within, weight-beyond, table-at}
 use Rattle.staircase.specs.Parameters.{Parameters, point}
 use Rattle.staircase.proofs.Points.{points-bytes, points-distinct}
 use Rattle.reader.specs.Basis.{basisRefusal, zeroTable, basisOf}
@@ -116,14 +116,13 @@ module _ (p : Parameters) (parties : List ℕ) (none : basisRefusal p parties �
     pub row-unique : (cs : List ℕ) → length cs ≡ length parties → Each Byte cs
         → ((j : ℕ) → j < length parties → eval (point p (getD parties j 0)) cs ≡ cond (eqb j i) 1 0)
         → cs ≡ take (length parties) (getD (basisOf p parties) i [])
-    unfolding unit
     row-unique cs n b v =
         let ps = map (point p) parties in
         let same : values ps cs ≡ unit (length ps) i =
-        tabulate-is (values ps cs) (length ps) (λ k. cond (eqb k i) 1 0) 0 (length-map ps (λ x. eval x cs))
+        unit-values ps cs i
         (λ j l.
         let m : j < length parties = rw many at l in
-        getD-map (λ x. eval x cs) ps j 0 0 l ∙ rw (getD-map (point p) parties j 0 0 m) (v j m)) in
+        rw (getD-map (point p) parties j 0 0 m) (v j m)) in
         rw row-is (basis-unique ps bytes apart i cs (n ∙ sym many) b same)
 
 -- ---- a refusal applies

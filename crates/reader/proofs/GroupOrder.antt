@@ -57,7 +57,7 @@ module _ (s : Scheme) (ds : List ℕ) (S : SchemeIs s (s .n) (s .r) (s .z) ds) (
         }
 
     pub found-none : (B w : List ℕ) → Found (s .block) (s .z) ds (rowsOfCount (s .block) (s .z) d) blocks (rowsBefore (s .block) (s .z) ds (i + 1)) B w
-    found-none B w j e t low high = absurd (let x : ⊥ = omega (arith, all-rows) in x)
+    found-none B w j e t low high = absurd (omega (arith, all-rows))
 
   module _ (blocks g used : ℕ) (L : GroupsLeft s ds d blocks g used) (pos : 0 < g) where
     same : g - 1 + 1 ≡ g

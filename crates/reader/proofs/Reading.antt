@@ -1,18 +1,16 @@
 -- What the reader's loops are told holds of the opened blocks: some keys turn these into the prefixes, and the prefixes' bytes are then values of
 -- the rows of these blocks under these keys.
 -- Assumes nothing.
-use mathlib.Core.Path.{_≡_, refl, sym, ap, ap₂, _∙_}
+use mathlib.Core.Path.{_≡_, refl, sym, ap, _∙_}
 use mathlib.Core.Bool.{true, false}
 use mathlib.Core.List.{List, map}
 use Prim.Native.Nat.{ℕ, _+_, _*_, _≤_, _<_}
-use native.Mathlib.Nat.{le-of-eq, mul-assoc}
+use native.Mathlib.Nat.{mul-assoc}
 use native.Mathlib.Omega.{arith}
 use lib.ListN.{length, getD, take}
 use Rattle.lists.specs.Each.{Each, Distinct, Byte, occurs}
-use Rattle.lists.specs.Table.{tabulate, piece}
+use Rattle.lists.specs.Table.{tabulate}
 use Rattle.lists.proofs.Each.{getD-map}
-use Rattle.lists.proofs.Table.{tabulate-same}
-use Rattle.lists.proofs.Piece.{length-piece}
 use Rattle.interpolation.specs.Polynomial.{eval}
 use Rattle.interpolation.specs.Interpolation.{basisTable}
 use Rattle.scheme.specs.declared.Scheme.{Scheme}
@@ -23,9 +21,9 @@ use Rattle.family.specs.Message.{Bytes}
 use Rattle.family.specs.Exactness.{readings}
 use Rattle.family.proofs.Exactness.{gives-has}
 use Rattle.staircase.specs.Parameters.{Parameters, Accepted, Party, parameters, block, rows, point}
-use Rattle.staircase.specs.Coefficients.{countOf, coefficient, coefficientAt}
+use Rattle.staircase.specs.Coefficients.{countOf, coefficientAt}
 use Rattle.staircase.specs.Shares.{staircase}
-use Rattle.staircase.proofs.Columns.{column-at, part-coefficient}
+use Rattle.staircase.proofs.Columns.{part-at}
 use Rattle.staircase.proofs.Points.{points-bytes, points-distinct}
 use Rattle.scheme.specs.Readers.{readersRefused}
 use Rattle.staircase.specs.Exactness.{prefixBytes, openedString, Gives}
@@ -51,17 +49,10 @@ module _ (p : Parameters) (A : Accepted p) (parties : List ℕ) (counted : occur
     row-sent : (j t a : ℕ) → j < sent → t < N → a < length parties
         → getD prefixes (a * (sent * N) + (j * N + t)) 0
         ≡ eval (getD (map (point p) parties) a 0) (tabulate (countOf (block p) (p .z) (p .counts) j) (coefficientAt (block p) (rows p) (p .z) (p .counts) B K t j))
-    unfolding readings staircase coefficientAt
+    unfolding readings staircase
     row-sent j t a hj ht ha =
-        let low : j < rows p = omega (arith, few) in
         sym (gives-has (staircase p) parties sent few N prefixes B K G t ht j a hj ha)
-        ∙ column-at p A (piece (block p) t B) (piece (rows p * p .z) t K)
-        (length-piece (block p) t N B (le-of-eq (sym (whole .0))) ht)
-        (length-piece (rows p * p .z) t N K (le-of-eq (sym (enough .0))) ht) (getD parties a 0) j low
-        ∙ ap₂ eval (sym (getD-map (point p) parties a 0 0 ha))
-        (tabulate-same (countOf (block p) (p .z) (p .counts) j)
-        (coefficient (block p) (p .z) (p .counts) (piece (block p) t B) (piece (rows p * p .z) t K) j) _
-        (λ e he. part-coefficient p A B K t j e low he))
+        ∙ rw (getD-map (point p) parties a 0 0 ha) (part-at p A N B K (whole .0) (enough .0) t j ht (omega (arith, few)) (getD parties a 0))
 
     sent-by : Sent (block p) (rows p) (p .z) (p .counts) (length parties) N (map (point p) parties) prefixes B K
     sent-by = record { blocks-are = whole; keys-are = enough; rows = row-sent }

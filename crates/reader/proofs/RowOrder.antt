@@ -25,7 +25,7 @@ use Rattle.staircase.proofs.Groups.{rows-most, group-is}
 use Rattle.rows.specs.Sources.{RowOrigins}
 use Rattle.reader.specs.Decoding.{Place, BasisOf, RowOf, Holds, Solved, Solves, Sent, rowsBefore, Found}
 use Rattle.rows.proofs.Scheme.{facts-of}
-use Rattle.reader.proofs.LaterRows.{before-some, before-next, count-low, group-most, row-forward}
+use Rattle.reader.proofs.LaterRows.{before-some, before-next, order-of, degree-within, group-most}
 
 -- the coefficients of blocks and keys that are bytes
 coefficient-byte : (m b z : ℕ) (ds B K : List ℕ) (t j e : ℕ) → Each Byte B → Each Byte K → Byte (coefficientAt m b z ds B K t j e)
@@ -154,10 +154,12 @@ module _ {s : Scheme} {ds : List ℕ} {d g P from end j : ℕ} (R : RowAt s ds d
       -- what the row's loop needs is in the buffer
       row-known : Holds 0 blocks (s .block) d (getD ds g 0) places B w
       row-known t e a b low high =
-          let F = row-forward s ds (R .scheme) d (R .count) g (R .group) (R .above) j e own low high in
+          let F = order-of s ds (R .scheme) d (R .count) .again j e row-inside low (rw (← row-count) high) in
           let same : origin (s .block) (s .z) ds (F .row) (F .degree) ≡ getD places e 0
-          = F .same ∙ sym (O .is e (omega (arith, count-low s ds (R .scheme) d (R .count))) high) in
-          rw same at (T (F .row) (F .degree) t (inr (omega (arith, F .later, before-next (s .block) (s .z) ds g))) (F .below) b (F .low) (F .high))
+          = F .is ∙ sym (O .is e (omega (arith, order-of s ds (R .scheme) d (R .count) .above)) high) in
+          rw same at
+          (T (F .row) (F .degree) t (inr (omega (arith, F .past, ap (rowsOfCount (s .block) (s .z)) row-count, before-next (s .block) (s .z) ds g)))
+          (F .within) b (F .low) (degree-within s ds (R .scheme) d (R .count) F))
 
       -- and it adds the row
       row-found : (w′ : List ℕ) → Solved 0 blocks (s .block) (s .z) d places B w w′ → TookRows s ds d blocks g (j + 1) B w′

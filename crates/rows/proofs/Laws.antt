@@ -26,7 +26,7 @@ module _ (s : Scheme) (ds : List ℕ) (S : SchemeIs s (s .n) (s .r) (s .z) ds) w
   origin-in : (bound row e : ℕ) → row < bound → row < s .rows → s .z ≤ e → e < countOf (s .block) (s .z) ds row
       → found (s .block) (s .z) ds row e ≡ origin (s .block) (s .z) ds row e
   unfolding countOf
-  origin-in zero row e l h low high = absurd (let x : ⊥ = omega arith in x)
+  origin-in zero row e l h low high = absurd (omega arith)
   origin-in (suc bound) row e l h low high =
       let m : ℕ = s .block in
       let z : ℕ = s .z in

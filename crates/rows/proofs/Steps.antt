@@ -61,8 +61,8 @@ module _ (m z : ℕ) (ds : List ℕ) where
   -- any bound above the row gives the same
   same-in : (f k j e : ℕ) → j < f → j < k → foundIn m z ds f j e ≡ foundIn m z ds k j e
   unfolding foundIn
-  same-in zero k j e hf hk = absurd (let x : ⊥ = omega arith in x)
-  same-in (suc f) zero j e hf hk = absurd (let x : ⊥ = omega arith in x)
+  same-in zero k j e hf hk = absurd (omega arith)
+  same-in (suc f) zero j e hf hk = absurd (omega arith)
   same-in (suc f) (suc k) j e hf hk =
       let i : ℕ = groupOf m z ds j in
       let d : ℕ = getD ds i 0 in

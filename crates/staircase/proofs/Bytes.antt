@@ -5,14 +5,12 @@ use mathlib.Core.Path.{_≡_, refl, ap, _∙_}
 use mathlib.Core.Bool.{cond}
 use mathlib.Core.List.{List, [], _∷_, _++_}
 use Prim.Native.Nat.{ℕ, zero, suc, _+_, _-_, _*_, _/_, _%_, _<_}
-use native.Mathlib.Omega.{arith}
 use lib.Dec.{ltb}
 use lib.ListN.{length, getD, replicate}
 use Rattle.lists.specs.Table.{tabulate, joined, piece}
 use Rattle.lists.proofs.Each.{replicate-at}
 use Rattle.lists.proofs.Table.{tabulate-same}
 use Rattle.lists.proofs.Joined.{in-grid, joined-same}
-use Rattle.lists.proofs.Piece.{length-piece}
 use Rattle.interpolation.specs.Polynomial.{eval}
 use Rattle.scheme.specs.Check.{blockCount}
 use Rattle.scheme.proofs.Laws.{accepted}
@@ -22,7 +20,7 @@ use Rattle.family.proofs.Message.{length-padded}
 use Rattle.staircase.specs.Parameters.{Parameters, Accepted, block, rows, point}
 use Rattle.staircase.specs.Coefficients.{countOf, coefficientAt, shareByte}
 use Rattle.staircase.specs.Shares.{staircase, shares}
-use Rattle.staircase.proofs.Columns.{column-at, part-coefficient}
+use Rattle.staircase.proofs.Columns.{part-at}
 
 -- zeros after a list are not seen
 getD-zeros : (l : List ℕ) (n i : ℕ) → getD (l ++ replicate n 0) i 0 ≡ getD l i 0
@@ -48,13 +46,10 @@ module _ (p : Parameters) (ok : Accepted p) (message keys : List ℕ) (enough : 
   byte-is s i h =
       let place = in-grid i (rows p) N h in
       let whole : length blocks ≡ N * block p = length-padded (block p) message (accepted (p .n) (p .r) (p .z) (p .counts) ok .least .positive) in
-      column-at p ok (piece (block p) (i % N) blocks) (piece (rows p * p .z) (i % N) keys) (length-piece {A = ℕ} (block p) (i % N) N blocks (omega arith) (place .1))
-      (length-piece {A = ℕ} (rows p * p .z) (i % N) N keys (omega arith) (place .1)) s (i / N) (place .0)
+      part-at p ok N blocks keys whole enough (i % N) (i / N) (place .1) (place .0) s
       ∙ ap (eval (point p s))
       (tabulate-same {A = ℕ} (countOf (block p) (p .z) (p .counts) (i / N)) _ _
-      (λ e he.
-      part-coefficient p ok blocks keys (i % N) (i / N) e (place .0) he
-      ∙ ap (cond (ltb e (p .z)) (getD keys ((i % N * rows p + i / N) * p .z + e) 0)) (getD-padded (block p) message _)))
+      (λ e he. ap (cond (ltb e (p .z)) (getD keys ((i % N * rows p + i / N) * p .z + e) 0)) (getD-padded (block p) message _)))
 
   pub shares-are : shares p message keys
       ≡ joined (p .n) (λ a. tabulate (rows p * N) (shareByte (block p) (rows p) (p .z) (p .counts) message keys N (point p (a + 1))))

@@ -47,7 +47,6 @@ module _ (p : Parameters) (A : Accepted p) (i : ℕ) (at : i < length (p .counts
   -- what a party has of a row is the row's value at its point
   value-at : (bytes keys : List ℕ) → length bytes ≡ block p → length keys ≡ rows p * p .z → (j a : ℕ) → j < sent → a < length parties
       → getD (staircase p .column bytes keys (getD parties a 0)) j 0 ≡ eval (getD xs a 0) (blockRow (block p) (p .z) (p .counts) bytes keys j)
-  unfolding blockRow
   value-at bytes keys hb hk j a hj ha =
       rw (getD-map {A = ℕ} {B = ℕ} (point p) parties a 0 0 ha) (column-at p A bytes keys hb hk (getD parties a 0) j (omega (arith, sent-most)))
 

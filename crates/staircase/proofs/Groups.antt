@@ -37,7 +37,7 @@ module _ (m z j : ℕ) where
 
   -- it is within its own
   pub group-within : (ds : List ℕ) → groupOf m z ds j < length ds → j < rowsOfCount m z (getD ds (groupOf m z ds j) 0)
-  group-within [] h = absurd (let x : ⊥ = omega arith in x)
+  group-within [] h = absurd (omega arith)
   group-within (d ∷ ds) h =
       ⊎-elim (λ l. rw (here d ds l) l)
       (λ l. rw (later d ds l) (group-within ds (omega (arith, later d ds l))))

@@ -13,7 +13,7 @@ use Rattle.scheme.specs.Check.{blockCount}
 use Rattle.scheme.proofs.Laws.{accepted}
 use Rattle.family.specs.Message.{Bytes, padded}
 use Rattle.family.specs.Family.{shareOfBlocks, sharesOfBlocks}
-use Rattle.family.specs.Secrecy.{Hidden}
+use Rattle.family.specs.Secrecy.{sum, Hidden, Mask}
 use Rattle.family.proofs.Message.{padded-bytes, block-bytes}
 use Rattle.family.proofs.Shares.{length-share}
 use Rattle.family.proofs.Mask.{hidden, blocks-mask}
@@ -35,35 +35,34 @@ part-is-share p message keys s h =
     ∙ ap (shareOfBlocks (staircase p) N blocks keys) e
 
 module _ (p : Parameters) (A : Accepted p) (parties : List ℕ) (in-range : Each (Party p) parties) (apart : Distinct parties) (few : length parties ≤ p .z) where
-  pub blocks-hidden : (N : ℕ) (first second : List ℕ) → Bytes (N * block p) first → Bytes (N * block p) second
-      → Hidden (N * staircase p .keys) (λ keys. map (shareOfBlocks (staircase p) N first keys) parties) (λ keys. map (shareOfBlocks (staircase p) N second keys) parties)
+  blocks-masked : (N : ℕ) (first second : List ℕ) → Bytes (N * block p) first → Bytes (N * block p) second
+      → Mask (N * staircase p .keys) (λ keys. map (shareOfBlocks (staircase p) N first keys) parties) (λ keys. map (shareOfBlocks (staircase p) N second keys) parties)
   unfolding staircase
-  blocks-hidden N first second h₁ h₂ =
-      hidden _ _ _
-      (blocks-mask (staircase p) parties N first second
+  blocks-masked N first second h₁ h₂ =
+      blocks-mask (staircase p) parties N first second
       (λ t h.
       block-mask p A parties in-range apart few (piece (block p) t first) (piece (block p) t second) (block-bytes (block p) t N first h₁ h)
-      (block-bytes (block p) t N second h₂ h)))
+      (block-bytes (block p) t N second h₂ h))
+
+  pub blocks-hidden : (N : ℕ) (first second : List ℕ) → Bytes (N * block p) first → Bytes (N * block p) second
+      → Hidden (N * staircase p .keys) (λ keys. map (shareOfBlocks (staircase p) N first keys) parties) (λ keys. map (shareOfBlocks (staircase p) N second keys) parties)
+  blocks-hidden N first second h₁ h₂ = hidden _ _ _ (blocks-masked N first second h₁ h₂)
+
+  parts-are-shares : (message keys : List ℕ) → let N : ℕ = blockCount (block p) (length message) in
+      map (λ s. partOf p N s (shares p message keys)) parties ≡ map (shareOfBlocks (staircase p) N (padded (block p) message) keys) parties
+  parts-are-shares message keys =
+      each-map {A = ℕ} {B = List ℕ} _ _ parties (each-imp {A = ℕ} (Party p) _ (λ s h. part-is-share p message keys s h) parties in-range)
 
   pub message-hidden : (first second : List ℕ) → Each Byte first → Each Byte second → length first ≡ length second
       → let N : ℕ = blockCount (block p) (length first) in
       Hidden (N * staircase p .keys) (λ keys. map (λ s. partOf p N s (shares p first keys)) parties) (λ keys. map (λ s. partOf p N s (shares p second keys)) parties)
   message-hidden first second h₁ h₂ e =
-      let N : ℕ = blockCount (block p) (length first) in
       let positive = accepted (p .n) (p .r) (p .z) (p .counts) A .least .positive in
-      let blocks = blocks-hidden N (padded (block p) first) (padded (block p) second) (padded-bytes (block p) first positive h₁)
+      let M = blocks-masked (blockCount (block p) (length first)) (padded (block p) first) (padded (block p) second) (padded-bytes (block p) first positive h₁)
       (rw (← e) at (padded-bytes (block p) second positive h₂)) in
+      hidden _ _ _
       record {
-        change = blocks .change;
-        into = blocks .into;
-        one-to-one = blocks .one-to-one;
-        onto = blocks .onto;
-        same =
-            λ keys K.
-            each-map {A = ℕ} {B = List ℕ} _ _ parties
-            (each-imp {A = ℕ} (Party p) _ (λ s h. part-is-share p first keys s h) parties in-range)
-            ∙ blocks .same keys K
-            ∙ sym
-            (each-map {A = ℕ} {B = List ℕ} _ _ parties
-            (each-imp {A = ℕ} (Party p) _ (λ s h. rw (← e) at (part-is-share p second (blocks .change keys) s h)) parties in-range));
+        mask = M .mask;
+        bytes = M .bytes;
+        same = λ keys K. parts-are-shares first keys ∙ M .same keys K ∙ sym (rw (← e) at (parts-are-shares second (sum keys (M .mask))));
       }

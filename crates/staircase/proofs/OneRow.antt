@@ -1,26 +1,25 @@
 -- One row of a block: it is the sum of its lower and its upper part, and the lower part that the opening finds is the only one with the row's
 -- values. By interpolation at the points, and entry by entry. Also what a row's turn writes.
 -- Assumes nothing.
-use mathlib.Core.Path.{_≡_, refl, sym, ap, ap₂, _∙_}
+use mathlib.Core.Path.{_≡_, refl, sym, ap, _∙_}
 use mathlib.Core.List.{List}
 use mathlib.Core.Logic.{_≢_, ⊎-elim}
 use Prim.Native.Nat.{ℕ, zero, suc, _+_, _*_, _≤_, _<_}
-use native.Mathlib.Nat.{zero-lt-suc}
+use native.Mathlib.Nat.{zero-lt-suc, le-refl}
 use native.Mathlib.Omega.{arith}
 use lib.Dec.{ltb}
-use lib.ListN.{length, getD, length-set, length-map, List·getD-eq-default}
-use lib.Seq.{ext-getD, getD-set-same, getD-set-other}
-use borrow.Author.Tests.{lt-ltb, le-ltb}
+use lib.ListN.{length, getD, take, length-set, length-map}
+use lib.Seq.{getD-take, length-take-le, getD-set-same, getD-set-other}
 use Rattle.lists.specs.Each.{Each, Distinct, Byte}
 use Rattle.lists.specs.Table.{tabulate}
 use Rattle.lists.proofs.Tests.{lt-or-le, cond-ind}
-use Rattle.lists.proofs.Each.{each-at, each-set, each-tabulate, getD-map}
-use Rattle.lists.proofs.Table.{length-tabulate, getD-tabulate, tabulate-same, tabulate-is}
+use Rattle.lists.proofs.Each.{each-at, each-imp, each-mapped, each-set, each-take, each-tabulate, getD-map}
+use Rattle.lists.proofs.Table.{length-tabulate, getD-tabulate, tabulate-is}
 use Rattle.gf256.specs.Byte.{_⊕_}
-use Rattle.gf256.proofs.Laws.{⊕-back, ⊕-zero, zero-⊕, ⊕-byte}
+use Rattle.gf256.proofs.Laws.{⊕-back, ⊕-byte}
 use Rattle.interpolation.specs.Polynomial.{eval, values, plus}
-use Rattle.interpolation.specs.Interpolation.{through}
-use Rattle.interpolation.proofs.Laws.{eval-plus, eval-byte, plus-at, plus-byte, plus-length-longer, through-values, through-length, through-byte, unique}
+use Rattle.interpolation.specs.Interpolation.{fitted}
+use Rattle.interpolation.proofs.Laws.{eval-plus, eval-byte, above-byte, above-same, plus-above, interpolation}
 use Rattle.staircase.specs.Coefficients.{countOf, origin, coefficient}
 use Rattle.staircase.specs.Opening.{blockRow, upperPart, lowerPart, placed}
 use Rattle.staircase.proofs.Rows.{coefficient-byte}
@@ -28,67 +27,54 @@ use Rattle.staircase.proofs.Rows.{coefficient-byte}
 -- ---- the upper part
 
 module _ (m z : ℕ) (ds : List ℕ) (d j : ℕ) where
-  upper-length : (block : List ℕ) → length (upperPart m z ds d block j) ≡ countOf m z ds j
-  unfolding upperPart
-  upper-length block = length-tabulate (countOf m z ds j) _
-
-  upper-below : (block : List ℕ) (e : ℕ) → e < countOf m z ds j → e < d → getD (upperPart m z ds d block j) e 0 ≡ 0
-  unfolding upperPart
-  upper-below block e h l = getD-tabulate (countOf m z ds j) _ e 0 h ∙ rw (lt-ltb e d l)
-
-  upper-from : (block : List ℕ) (e : ℕ) → e < countOf m z ds j → d ≤ e → getD (upperPart m z ds d block j) e 0 ≡ getD block (origin m z ds j e) 0
-  unfolding upperPart
-  upper-from block e h l = getD-tabulate (countOf m z ds j) _ e 0 h ∙ rw (le-ltb e d l)
-
   upper-byte : (block : List ℕ) → Each Byte block → Each Byte (upperPart m z ds d block j)
   unfolding upperPart
   upper-byte block h =
-      each-tabulate Byte (countOf m z ds j) _
-      (λ e l. cond-ind Byte {t = ltb e d} (λ _. zero-lt-suc 255) (λ _. each-at Byte block (origin m z ds j e) 0 (zero-lt-suc 255) h))
+      above-byte d _ (each-tabulate Byte (countOf m z ds j) _ (λ e _. each-at Byte block (origin m z ds j e) 0 (zero-lt-suc 255) h))
 
   -- it is read off the bytes at its origins alone
   pub upper-same : (block block′ : List ℕ)
       → ((e : ℕ) → d ≤ e → e < countOf m z ds j → getD block (origin m z ds j e) 0 ≡ getD block′ (origin m z ds j e) 0)
       → upperPart m z ds d block j ≡ upperPart m z ds d block′ j
   unfolding upperPart
-  upper-same block block′ same =
-      tabulate-same (countOf m z ds j) _ _
-      (λ e h. ⊎-elim (λ (l : e < d). rw (lt-ltb e d l)) (λ (l : d ≤ e). rw (le-ltb e d l) (same e l h)) (lt-or-le e d))
+  upper-same block block′ same = above-same d (countOf m z ds j) _ _ same
 
-  -- a row is its lower and its upper part
-  pub row-parts : (block keys lower : List ℕ) → z ≤ d → d ≤ countOf m z ds j → length lower ≡ d
-      → ((e : ℕ) → e < d → getD lower e 0 ≡ coefficient m z ds block keys j e)
-      → blockRow m z ds block keys j ≡ plus lower (upperPart m z ds d block j)
-  unfolding blockRow
-  row-parts block keys lower zd wide long same =
-      let upper : List ℕ = upperPart m z ds d block j in
-      sym (tabulate-is (plus lower upper) (countOf m z ds j) (coefficient m z ds block keys j) 0
-      (plus-length-longer lower upper (rw (upper-length block, long) wide) ∙ upper-length block)
-      (λ e h.
-      plus-at lower upper e
-      ∙ ⊎-elim (λ (l : e < d). ap₂ _⊕_ (same e l) (upper-below block e h l) ∙ ⊕-zero (coefficient m z ds block keys j e))
-      (λ (l : d ≤ e).
-      ap₂ _⊕_ (List·getD-eq-default lower 0 (rw long l)) (upper-from block e h l)
-      ∙ zero-⊕ (getD block (origin m z ds j e) 0)
-      ∙ sym (coefficient-byte m z ds block keys j e (omega arith)))
-      (lt-or-le e d)))
+  -- a row is its coefficients below d and its upper part
+  pub row-parts : (block keys : List ℕ) → z ≤ d
+      → blockRow m z ds block keys j ≡ plus (take d (blockRow m z ds block keys j)) (upperPart m z ds d block j)
+  unfolding blockRow upperPart
+  row-parts block keys zd =
+      let row : List ℕ = blockRow m z ds block keys j in
+      sym (plus-above d row)
+      ∙ ap (plus (take d row)) (above-same d (countOf m z ds j) _ _ (λ e h _. coefficient-byte m z ds block keys j e (omega arith)))
 
-coefficient-is-byte : (m z : ℕ) (ds block keys : List ℕ) (j e : ℕ) → Each Byte block → Each Byte keys → Byte (coefficient m z ds block keys j e)
-unfolding coefficient
-coefficient-is-byte m z ds block keys j e hb hk =
+  module _ (wide : d ≤ countOf m z ds j) (block keys : List ℕ) where
+    pub row-first : length (take d (blockRow m z ds block keys j)) ≡ d
+    unfolding blockRow
+    row-first = length-take-le d (blockRow m z ds block keys j) (rw length-tabulate wide)
+
+    pub row-lower : (e : ℕ) → e < d → getD (take d (blockRow m z ds block keys j)) e 0 ≡ coefficient m z ds block keys j e
+    unfolding blockRow
+    row-lower e h = getD-take d (blockRow m z ds block keys j) e 0 h ∙ getD-tabulate (countOf m z ds j) _ e 0 (omega arith)
+
+row-byte : (m z : ℕ) (ds block keys : List ℕ) (j : ℕ) → Each Byte block → Each Byte keys → Each Byte (blockRow m z ds block keys j)
+unfolding blockRow coefficient
+row-byte m z ds block keys j hb hk =
+    each-tabulate Byte (countOf m z ds j) _
+    (λ e _.
     cond-ind Byte {t = ltb e z} (λ _. each-at Byte keys (j * z + e) 0 (zero-lt-suc 255) hk)
-    (λ _. each-at Byte block (origin m z ds j e) 0 (zero-lt-suc 255) hb)
+    (λ _. each-at Byte block (origin m z ds j e) 0 (zero-lt-suc 255) hb))
 
 -- ---- the lower part
 
 module _ (m z : ℕ) (ds xs : List ℕ) (v : ℕ → ℕ → ℕ) (block : List ℕ) (j : ℕ) where
   pub lower-length : length (lowerPart m z ds xs v block j) ≡ length xs
   unfolding lowerPart
-  lower-length = through-length xs _
+  lower-length = interpolation .exists-length (length xs) xs _ (le-refl (length xs))
 
   pub lower-byte : Each Byte (lowerPart m z ds xs v block j)
   unfolding lowerPart
-  lower-byte = through-byte xs _
+  lower-byte = interpolation .exists-byte (length xs) xs _
 
   pub lower-same : (block′ : List ℕ) → upperPart m z ds (length xs) block j ≡ upperPart m z ds (length xs) block′ j
       → lowerPart m z ds xs v block j ≡ lowerPart m z ds xs v block′ j
@@ -108,8 +94,8 @@ module _ (m z : ℕ) (ds xs : List ℕ) (v : ℕ → ℕ → ℕ) (block : List 
         let upper-bytes : Each Byte (upperPart m z ds (length xs) block j) = upper-byte m z ds (length xs) j block block-bytes in
         let vs-bytes : Each Byte vs
         = each-tabulate Byte (length xs) rest (λ c l. ⊕-byte (v j c) _ (vb c l) (eval-byte (getD xs c 0) (upperPart m z ds (length xs) block j) upper-bytes)) in
-        sym (getD-map {A = ℕ} {B = ℕ} (λ x. eval x (through xs vs)) xs a 0 0 h)
-        ∙ ap (λ (l : List ℕ). getD l a 0) (through-values xs vs bytes apart (length-tabulate (length xs) rest) vs-bytes)
+        sym (getD-map {A = ℕ} {B = ℕ} (λ x. eval x (fitted (length xs) xs vs)) xs a 0 0 h)
+        ∙ ap (λ (l : List ℕ). getD l a 0) (interpolation .exists (length xs) xs vs bytes apart (length-tabulate (length xs) rest) vs-bytes)
         ∙ getD-tabulate (length xs) rest a 0 h
 
     -- it gives the row its values
@@ -125,39 +111,33 @@ module _ (m z : ℕ) (ds xs : List ℕ) (v : ℕ → ℕ → ℕ) (block : List 
     pub lower-unique : (lower : List ℕ) → length lower ≡ length xs → Each Byte lower
         → ((a : ℕ) → a < length xs → eval (getD xs a 0) (plus lower (upperPart m z ds (length xs) block j)) ≡ v j a)
         → lower ≡ lowerPart m z ds xs v block j
+    unfolding lowerPart rest
     lower-unique lower long lb has =
         let upper : List ℕ = upperPart m z ds (length xs) block j in
-        let found : List ℕ = lowerPart m z ds xs v block j in
-        let upper-bytes : Each Byte upper = upper-byte m z ds (length xs) j block block-bytes in
-        let vb : (a : ℕ) → a < length xs → Byte (v j a)
-        = λ a h. rw (← has a h) (eval-byte (getD xs a 0) (plus lower upper) (plus-byte lower upper lb upper-bytes)) in
-        unique xs lower found bytes apart lb lower-byte (long ∙ sym lower-length) (omega arith)
-        (ext-getD 0 (values xs lower) (values xs found) (length-map xs (λ x. eval x lower) ∙ sym (length-map xs (λ x. eval x found)))
-        (λ a b.
-        let h : a < length xs = rw (length-map xs (λ x. eval x lower)) at b in
+        let vs : List ℕ = tabulate (length xs) rest in
+        let same : values xs lower ≡ vs =
+        tabulate-is (values xs lower) (length xs) rest 0 (length-map xs (λ x. eval x lower))
+        (λ a h.
         let x : ℕ = getD xs a 0 in
         getD-map {A = ℕ} {B = ℕ} (λ y. eval y lower) xs a 0 0 h
         ∙ sym (⊕-back (eval x lower) (eval x upper))
-        ∙ ap (λ (w : ℕ). w ⊕ eval x upper) (sym (eval-plus x lower upper) ∙ has a h)
-        ∙ sym (lower-at vb a h)
-        ∙ sym (getD-map {A = ℕ} {B = ℕ} (λ y. eval y found) xs a 0 0 h)))
+        ∙ ap (λ (w : ℕ). w ⊕ eval x upper) (sym (eval-plus x lower upper) ∙ has a h)) in
+        let vs-bytes : Each Byte vs
+        = rw (← same) (each-mapped Byte (λ x. eval x lower) xs (each-imp Byte _ (λ x _. eval-byte x lower lb) xs bytes)) in
+        interpolation .unique xs lower (fitted (length xs) xs vs) bytes apart lb lower-byte (long ∙ sym lower-length) (omega arith)
+        (same ∙ sym (interpolation .exists (length xs) xs vs bytes apart (length-tabulate (length xs) rest) vs-bytes))
 
     -- so, where the row has the values, it is the row's lower coefficients
     pub lower-found : (keys : List ℕ) → Each Byte keys → z ≤ length xs → length xs ≤ countOf m z ds j
         → ((a : ℕ) → a < length xs → eval (getD xs a 0) (blockRow m z ds block keys j) ≡ v j a)
         → (e : ℕ) → e < length xs → getD (lowerPart m z ds xs v block j) e 0 ≡ coefficient m z ds block keys j e
     lower-found keys hk low wide has e h =
-        let lower : List ℕ = tabulate (length xs) (coefficient m z ds block keys j) in
-        let long : length lower ≡ length xs = length-tabulate (length xs) (coefficient m z ds block keys j) in
-        let at : (c : ℕ) → c < length xs → getD lower c 0 ≡ coefficient m z ds block keys j c
-        = λ c l. getD-tabulate (length xs) (coefficient m z ds block keys j) c 0 l in
-        let row : blockRow m z ds block keys j ≡ plus lower (upperPart m z ds (length xs) block j)
-        = row-parts m z ds (length xs) j block keys lower low wide long at in
-        let lower-bytes : Each Byte lower
-        = each-tabulate Byte (length xs) _ (λ c l. coefficient-is-byte m z ds block keys j c block-bytes hk) in
-        let same : lower ≡ lowerPart m z ds xs v block j
-        = lower-unique lower long lower-bytes (λ a l. ap (eval (getD xs a 0)) (sym row) ∙ has a l) in
-        ap (λ (x : List ℕ). getD x e 0) (sym same) ∙ at e h
+        let d : ℕ = length xs in
+        let row : List ℕ = blockRow m z ds block keys j in
+        let same : take d row ≡ lowerPart m z ds xs v block j
+        = lower-unique (take d row) (row-first m z ds d j wide block keys) (each-take Byte d row (row-byte m z ds block keys j block-bytes hk))
+        (λ a l. ap (eval (getD xs a 0)) (sym (row-parts m z ds d j block keys low)) ∙ has a l) in
+        ap (λ (x : List ℕ). getD x e 0) (sym same) ∙ row-lower m z ds d j wide block keys e h
 
 -- ---- what a row's turn writes
 
@@ -185,7 +165,7 @@ module _ (m z : ℕ) (ds : List ℕ) (j : ℕ) (lower : List ℕ) where
       → ((k l : ℕ) → k < many → l < many → origin m z ds j (z + k) ≡ origin m z ds j (z + l) → k ≡ l)
       → (k : ℕ) → k < many → getD (placed m z ds j lower many block) (origin m z ds j (z + k)) 0 ≡ getD lower (z + k) 0
   unfolding placed
-  placed-at zero block inside once k h = absurd (let x : ⊥ = omega arith in x)
+  placed-at zero block inside once k h = absurd (omega arith)
   placed-at (suc many) block inside once k h =
       let before : List ℕ = placed m z ds j lower many block in
       let value : ℕ = getD lower (z + many) 0 in

@@ -2,14 +2,14 @@
 -- Each origin is written by one row alone, so at the end it still holds what that row's turn found there; and what a row's upper part is read
 -- off was written before its turn. So each row is found as it is in any block with these values, and the opened block has them.
 -- Assumes nothing.
-use mathlib.Core.Path.{_≡_, refl, sym, ap, _∙_}
+use mathlib.Core.Path.{_≡_, refl, sym, ap, ap₂, _∙_}
 use mathlib.Core.List.{List}
 use mathlib.Core.Logic.{⊎-elim}
 use Prim.Native.Nat.{ℕ, zero, suc, _+_, _-_, _*_, _/_, _%_, _≤_, _<_}
 use native.Mathlib.Nat.{zero-lt-suc}
 use native.Mathlib.Omega.{arith}
 use lib.Dec.{ltb}
-use lib.ListN.{length, getD, length-replicate}
+use lib.ListN.{length, getD, take, length-replicate}
 use lib.Seq.{ext-getD}
 use borrow.Author.Tests.{lt-ltb}
 use Rattle.lists.specs.Each.{Each, Distinct, Byte}
@@ -25,7 +25,7 @@ use Rattle.staircase.specs.Coefficients.{origin, coefficient}
 use Rattle.staircase.specs.Opening.{blockRow, upperPart, lowerPart, openedFrom, openedBlock, openedLower, openedKeys, HasValues, BlockExact}
 use Rattle.staircase.proofs.Rows.{coefficient-key, coefficient-byte}
 use Rattle.staircase.proofs.Order.{Order, order}
-use Rattle.staircase.proofs.OneRow.{upper-same, row-parts, lower-length, lower-byte, lower-same, lower-values, lower-found}
+use Rattle.staircase.proofs.OneRow.{upper-same, row-parts, row-first, row-lower, lower-length, lower-byte, lower-same, lower-values, lower-found}
 use Rattle.staircase.proofs.OneRow.{placed-length, placed-byte, placed-other, placed-at}
 
 module _ (m b z : ℕ) (ds xs : List ℕ) (v : ℕ → ℕ → ℕ) (O : Order m b z ds (length xs) (rowsOfCount m z (length xs))) where
@@ -49,7 +49,7 @@ module _ (m b z : ℕ) (ds xs : List ℕ) (v : ℕ → ℕ → ℕ) (O : Order m
   opened-at : (many j : ℕ) → j + many ≡ P → (k e : ℕ) → j ≤ k → k < P → z ≤ e → e < length xs
       → getD (openedFrom m z ds xs v j many) (origin m z ds k e) 0 ≡ getD (openedLower m z ds xs v k) e 0
   unfolding openedFrom openedLower
-  opened-at zero j all k e from h low high = absurd (let x : ⊥ = omega arith in x)
+  opened-at zero j all k e from h low high = absurd (omega arith)
   opened-at (suc many) j all k e from h low high =
       let later : List ℕ = openedFrom m z ds xs v (suc j) many in
       let lower : List ℕ = lowerPart m z ds xs v later j in
@@ -79,9 +79,10 @@ module _ (m b z : ℕ) (ds xs : List ℕ) (v : ℕ → ℕ → ℕ) (O : Order m
       upper-same m z ds (length xs) j later block
       (λ e l u.
       let s = O .again j e h l u in
+      let past : suc j ≤ s .row = omega (arith, O .own j h, s .past) in
       ap (λ (p : ℕ). getD later p 0) (sym (s .is))
-      ∙ opened-at (P - suc j) (suc j) (omega arith) (s .row) (s .degree) (s .past) (s .within) (s .low) (s .high)
-      ∙ same (s .row) (s .degree) (s .past) (s .within) (s .low) (s .high)
+      ∙ opened-at (P - suc j) (suc j) (omega arith) (s .row) (s .degree) past (s .within) (s .low) (s .high)
+      ∙ same (s .row) (s .degree) past (s .within) (s .low) (s .high)
       ∙ ap (λ (p : ℕ). getD block p 0) (s .is))
 
   -- ---- the opened block and keys
@@ -130,10 +131,14 @@ module _ (m b z : ℕ) (ds xs : List ℕ) (v : ℕ → ℕ → ℕ) (O : Order m
         let block : List ℕ = openedBlock m z ds xs v in
         let keys : List ℕ = openedKeys m b z ds xs v in
         let lower : List ℕ = openedLower m z ds xs v j in
-        let row : blockRow m z ds block keys j ≡ plus lower (upperPart m z ds (length xs) block j)
-        = row-parts m z ds (length xs) j block keys lower (omega (arith, O .above)) (O .wide j hj) (found-length j) (λ e h. found-coefficient j e hj h) in
+        let first = row-first m z ds (length xs) j (O .wide j hj) block keys in
+        let same : take (length xs) (blockRow m z ds block keys j) ≡ lower
+        = ext-getD 0 _ lower (first ∙ sym (found-length j))
+        (λ e h.
+        let l : e < length xs = rw first at h in
+        row-lower m z ds (length xs) j (O .wide j hj) block keys e l ∙ sym (found-coefficient j e hj l)) in
         let upper = known block j hj (λ k e l h low high. sym (block-at k e h low high)) in
-        ap (eval (getD xs a 0)) (row ∙ ap (plus lower) (sym upper))
+        ap (eval (getD xs a 0)) (row-parts m z ds (length xs) j block keys (omega (arith, O .above)) ∙ ap₂ plus same (sym upper))
         ∙ lower-values m z ds xs v (openedFrom m z ds xs v (suc j) (P - suc j)) j bytes apart (opened-byte (P - suc j) (suc j)) (λ c h. vb j c hj h) a ha
 
     -- ---- a block with the given values
@@ -143,7 +148,7 @@ module _ (m b z : ℕ) (ds xs : List ℕ) (v : ℕ → ℕ → ℕ) (O : Order m
       found : (left j e : ℕ) → P ≤ j + left → j < P → e < length xs
           → getD (openedLower m z ds xs v j) e 0 ≡ coefficient m z ds block keys j e
       unfolding openedLower
-      found zero j e l h u = absurd (let x : ⊥ = omega arith in x)
+      found zero j e l h u = absurd (omega arith)
       found (suc left) j e l h u =
           let upper =
           known block j h (λ k c more end low high. found left k c (omega arith) end high ∙ coefficient-byte m z ds block keys k c low) in
@@ -172,13 +177,6 @@ block-exact n r z ds m b A i hi xs bytes apart long =
     let O : Order m b z ds (length xs) (rowsOfCount m z (length xs))
     = order n r z ds m b A i (length xs) (rowsOfCount m z (length xs)) hi long refl in
     record {
-      unique =
-          λ v block keys block′ keys′ hb hk hb′ hk′ has has′.
-          sym (returns m b z ds xs v O bytes apart block keys hb hk has) ∙ returns m b z ds xs v O bytes apart block′ keys′ hb′ hk′ has′;
-      keys-unique =
-          λ v block keys block′ keys′ hb hk hb′ hk′ has has′ j e h l.
-          sym (keys-return m b z ds xs v O bytes apart block keys hb hk has j e h l)
-          ∙ keys-return m b z ds xs v O bytes apart block′ keys′ hb′ hk′ has′ j e h l;
       exists = λ v. exists m b z ds xs v O bytes apart;
       block-bytes = λ v. block-bytes m b z ds xs v O;
       keys-bytes = λ v. keys-bytes m b z ds xs v O;

@@ -35,7 +35,6 @@ module _ (m z : ℕ) (ds : List ℕ) (bound j e : ℕ) where
 pub record Step (m z : ℕ) (ds : List ℕ) (b j d above q : ℕ) : Type 0 where
   -- it stands in an earlier group's row
   pub row : q / (above - d) < rowsOfCount m z above
-  pub past : rowsOfCount m z above ≤ j
   pub earlier : q / (above - d) < j
   pub below : q / (above - d) < b
   -- and is no key, nor past that row's end
@@ -52,8 +51,6 @@ Once z rows d o =
 pub record Forward (m z : ℕ) (ds : List ℕ) (i j e j′ e′ : ℕ) : Type 0 where
   pub row : j′ < rowsOfCount m z (getD ds (i + 1) 0)
   pub past : rowsOfCount m z (getD ds i 0) ≤ j′
-  pub later : j < j′
-  pub group : groupOf m z ds j′ ≡ i + 1
   pub low : z ≤ e′
   pub high : e′ < getD ds (i + 1) 0
   pub same : origin m z ds j′ e′ ≡ origin m z ds j e
@@ -80,7 +77,6 @@ module _ (n r z : ℕ) (ds : List ℕ) (m b : ℕ) (A : facts.Accepted n r z ds 
         let end : d + q % (above - d) < above = omega (arith, g .1) in
         record {
           row = g .0;
-          past = past;
           earlier = omega (arith, g .0);
           below = omega (arith, g .0);
           low = omega arith;
@@ -91,8 +87,8 @@ module _ (n r z : ℕ) (ds : List ℕ) (m b : ℕ) (A : facts.Accepted n r z ds 
   -- any bound above the row gives the same
   same-in : (f k j e : ℕ) → j < b → e < countOf m z ds j → j < f → j < k → originIn m z ds f j e ≡ originIn m z ds k j e
   unfolding countOf
-  same-in zero k j e hj he hf hk = absurd (let x : ⊥ = omega arith in x)
-  same-in (suc f) zero j e hj he hf hk = absurd (let x : ⊥ = omega arith in x)
+  same-in zero k j e hj he hf hk = absurd (omega arith)
+  same-in (suc f) zero j e hj he hf hk = absurd (omega arith)
   same-in (suc f) (suc k) j e hj he hf hk =
       let i : ℕ = groupOf m z ds j in
       let d : ℕ = getD ds i 0 in
@@ -127,7 +123,7 @@ module _ (n r z : ℕ) (ds : List ℕ) (m b : ℕ) (A : facts.Accepted n r z ds 
 
   below-in : (bound j e : ℕ) → j < bound → j < b → e < countOf m z ds j → origin m z ds j e < m
   unfolding countOf
-  below-in zero j e l hj he = absurd (let x : ⊥ = omega arith in x)
+  below-in zero j e l hj he = absurd (omega arith)
   below-in (suc bound) j e l hj he =
       let i : ℕ = groupOf m z ds j in
       let d : ℕ = getD ds i 0 in
@@ -189,8 +185,6 @@ module _ (n r z : ℕ) (ds : List ℕ) (m b : ℕ) (A : facts.Accepted n r z ds 
       record {
         row = rw (← hd) row;
         past = rw (← ha) (omega arith);
-        later = omega arith;
-        group = group;
         low = omega arith;
         high = rw (← hd) (omega (arith, g .1));
         same = later ∙ ap₂ (origin m z ds) same-row same-degree;

@@ -42,7 +42,7 @@ keyed-at z keys (rest ∷ rests) (suc j) h =
     keyed-at z (drop z keys) rests j (le-of-suc-le-suc h) ∙ rw (drop-drop, suc-mul, add-comm z (j * z))
 
 -- a row is a table by its entries below z and from z up
-row-table : (z d : ℕ) (keys rest : List ℕ) (f : ℕ → ℕ) → z ≤ d → length keys ≡ z → length rest ≡ d - z
+pub row-table : (z d : ℕ) (keys rest : List ℕ) (f : ℕ → ℕ) → z ≤ d → length keys ≡ z → length rest ≡ d - z
     → ((e : ℕ) → e < z → getD keys e 0 ≡ f e) → ((e : ℕ) → z ≤ e → e < d → getD rest (e - z) 0 ≡ f e) → rowOf keys rest ≡ tabulate d f
 unfolding rowOf
 row-table z d keys rest f le k r low high =
@@ -259,8 +259,7 @@ rows-begin m z [] block keys h = absurd (not-suc-le-zero h)
 rows-begin m z (d ∷ ds) block keys h = refl
 
 pub rows-are : (n r z : ℕ) (ds : List ℕ) (m b : ℕ) → facts.Accepted n r z ds m b → (block keys : List ℕ) → length block ≡ m → length keys ≡ b * z
-    → rowsOf m z ds block keys ≡ tabulate b (λ j. tabulate (countOf m z ds j) (coefficient m z ds block keys j))
-unfolding blockRow
+    → rowsOf m z ds block keys ≡ tabulate b (blockRow m z ds block keys)
 rows-are n r z ds m b A block keys whole enough =
     let u = rest-groups n r z ds m b A block keys whole enough (drop 1 ds) 0 (A .some) refl
     (keyed z keys (pieces (rowsOfCount m z (getD ds 0 0)) (getD ds 0 0 - z) block)) (first-group n r z ds m b A block keys whole enough) in

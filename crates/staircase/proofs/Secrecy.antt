@@ -2,38 +2,37 @@
 -- blocks' other coefficients can be added to the keys of the row unseen.
 -- Assumes nothing.
 use mathlib.Core.Path.{_≡_, sym, ap, _∙_}
-use mathlib.Core.List.{List, _++_, map}
-use mathlib.Core.Logic.{⊎-elim}
+use mathlib.Core.List.{List, map}
 use Prim.Native.Nat.{ℕ, _+_, _-_, _*_, _≤_, _<_}
 use native.Mathlib.Nat.{zero-lt-suc}
 use native.Mathlib.Omega.{arith}
-use lib.ListN.{length, getD, length-map, length-append, List·getD-append}
-use lib.Seq.{ext-getD, getD-append-add}
-use borrow.Author.Tests.{lt-ltb, le-ltb}
+use lib.ListN.{length, getD, length-map}
+use lib.Seq.{ext-getD}
 use Rattle.lists.specs.Each.{Each, Distinct, Byte}
-use Rattle.lists.specs.Table.{tabulate, piece}
-use Rattle.lists.proofs.Tests.{lt-or-le}
-use Rattle.lists.proofs.Each.{each-getD, each-of, each-imp, each-map, map-each, each-joined, each-tabulate, each-at, getD-map}
-use Rattle.lists.proofs.Table.{length-tabulate, getD-tabulate, tabulate-same, tabulate-is, map-tabulate}
+use Rattle.lists.specs.Table.{piece}
+use Rattle.lists.proofs.Each.{each-getD, each-of, each-imp, each-map, each-mapped, map-each, each-joined, each-tabulate, each-at, getD-map}
+use Rattle.lists.proofs.Table.{length-tabulate, getD-tabulate, tabulate-same, map-tabulate}
 use Rattle.lists.proofs.Joined.{length-joined, piece-joined}
 use Rattle.lists.proofs.Piece.{length-piece, getD-piece}
-use Rattle.gf256.specs.Byte.{_⊕_, _⊗_}
+use Rattle.gf256.specs.Byte.{_⊕_}
 use Rattle.gf256.proofs.Laws.{⊕-assoc, ⊕-self, ⊕-zero, ⊕-byte, ⊗-byte}
 use Rattle.interpolation.specs.Polynomial.{eval, plus}
 use Rattle.interpolation.specs.Interpolation.{fitted}
-use Rattle.interpolation.proofs.Laws.{eval-append, eval-plus, eval-byte, plus-at, plus-length, fitted-values, fitted-length, fitted-byte}
+use Rattle.interpolation.proofs.Laws.{eval-append, eval-plus, eval-byte, plus-at, plus-length, interpolation}
 use Rattle.family.specs.Message.{Bytes}
 use Rattle.family.specs.Secrecy.{sum, Mask}
 use Rattle.family.proofs.Sum.{length-sum, getD-sum, piece-sum}
 use Rattle.scheme.specs.Facts as Facts
 use Rattle.scheme.proofs.Laws.{accepted}
 use Rattle.staircase.specs.Parameters.{Parameters, Accepted, Party, block, rows, point}
+use Rattle.staircase.specs.Rows.{rowOf}
 use Rattle.staircase.specs.Coefficients.{groupOf, countOf, origin, coefficient}
+use Rattle.staircase.specs.Opening.{blockRow}
 use Rattle.staircase.proofs.Points.{points-bytes, points-distinct}
 use Rattle.staircase.specs.Shares.{staircase}
 use Rattle.staircase.specs.Mask.{restOf, upper, rowMask, blockMask}
 use Rattle.staircase.proofs.Groups.{group-place}
-use Rattle.staircase.proofs.Rows.{rows-are}
+use Rattle.staircase.proofs.Rows.{row-table, rows-are, coefficient-key, coefficient-byte}
 use Rattle.family.proofs.Mask.{seen}
 
 -- the two sums of strings agree where the lengths do
@@ -44,14 +43,14 @@ sum-plus xs ys e =
 
 -- ---- one row: its z keys, and the rest
 
-row-value : (z x : ℕ) (keys rest : List ℕ) → length keys ≡ z → Each Byte rest → eval x (keys ++ rest) ≡ eval x keys ⊕ upper z rest x
-unfolding upper
+row-value : (z x : ℕ) (keys rest : List ℕ) → length keys ≡ z → Each Byte rest → eval x (rowOf keys rest) ≡ eval x keys ⊕ upper z rest x
+unfolding rowOf upper
 row-value z x keys rest e h = rw e at (eval-append x keys rest (eval-byte x rest h))
 
 module _ (z : ℕ) (xs : List ℕ) (bytes : Each Byte xs) (apart : Distinct xs) (few : length xs ≤ z) (rest₁ rest₂ : List ℕ) (h₁ : Each Byte rest₁) (h₂ : Each Byte rest₂) where
   row-mask-bytes : Bytes z (rowMask z xs rest₁ rest₂)
   unfolding rowMask
-  row-mask-bytes = (fitted-length z xs _ few, fitted-byte z xs _)
+  row-mask-bytes = (interpolation .exists-length z xs _ few, interpolation .exists-byte z xs _)
 
   -- the mask's value at each point is the difference
   row-mask-value : Each (λ x. eval x (rowMask z xs rest₁ rest₂) ≡ upper z rest₁ x ⊕ upper z rest₂ x) xs
@@ -59,20 +58,17 @@ module _ (z : ℕ) (xs : List ℕ) (bytes : Each Byte xs) (apart : Distinct xs) 
   row-mask-value =
       let f : ℕ → ℕ = λ x. upper z rest₁ x ⊕ upper z rest₂ x in
       let fb : Each Byte (map f xs) =
-      each-of {A = ℕ} Byte (map f xs) 0
-      (λ i h.
-      let l : i < length xs = rw (length-map xs f) at h in
-      rw (getD-map {A = ℕ} {B = ℕ} f xs i 0 0 l) (⊕-byte (upper z rest₁ (getD xs i 0)) (upper z rest₂ (getD xs i 0)) (⊗-byte _ _) (⊗-byte _ _))) in
-      map-each {A = ℕ} {B = ℕ} (λ x. eval x (fitted z xs (map f xs))) f xs (fitted-values z xs (map f xs) bytes apart (length-map xs f) fb)
+      each-mapped {A = ℕ} {B = ℕ} Byte f xs (each-imp {A = ℕ} Byte _ (λ x _. ⊕-byte (upper z rest₁ x) (upper z rest₂ x) (⊗-byte _ _) (⊗-byte _ _)) xs bytes) in
+      map-each {A = ℕ} {B = ℕ} (λ x. eval x (fitted z xs (map f xs))) f xs (interpolation .exists z xs (map f xs) bytes apart (length-map xs f) fb)
 
-  row-same : (keys : List ℕ) → length keys ≡ z → Each (λ x. eval x (keys ++ rest₁) ≡ eval x (sum keys (rowMask z xs rest₁ rest₂) ++ rest₂)) xs
+  row-same : (keys : List ℕ) → length keys ≡ z → Each (λ x. eval x (rowOf keys rest₁) ≡ eval x (rowOf (sum keys (rowMask z xs rest₁ rest₂)) rest₂)) xs
   row-same keys e =
       each-imp {A = ℕ} (λ x. eval x (rowMask z xs rest₁ rest₂) ≡ upper z rest₁ x ⊕ upper z rest₂ x) _
       (λ x v.
       let δ : List ℕ = rowMask z xs rest₁ rest₂ in
       let u₁ : ℕ = upper z rest₁ x in
       let u₂ : ℕ = upper z rest₂ x in
-      let changed : eval x (sum keys δ ++ rest₂) ≡ eval x keys ⊕ u₁ =
+      let changed : eval x (rowOf (sum keys δ) rest₂) ≡ eval x keys ⊕ u₁ =
       row-value z x (sum keys δ) rest₂ (length-sum keys δ ∙ e) h₂
       ∙ ap (λ (w : ℕ). w ⊕ u₂) (ap (eval x) (sum-plus keys δ (e ∙ sym (row-mask-bytes .0))) ∙ eval-plus x keys δ ∙ ap (λ (w : ℕ). eval x keys ⊕ w) v)
       ∙ ⊕-assoc (eval x keys) (u₁ ⊕ u₂) u₂
@@ -87,26 +83,16 @@ unfolding restOf
 rest-byte m z ds block j h = each-tabulate {A = ℕ} Byte (countOf m z ds j - z) _ (λ e b. each-at {A = ℕ} Byte block (origin m z ds j (z + e)) 0 (zero-lt-suc 255) h)
 
 row-split : (m z : ℕ) (ds block keys : List ℕ) (b j : ℕ) → length keys ≡ b * z → j < b → z ≤ countOf m z ds j
-    → tabulate (countOf m z ds j) (coefficient m z ds block keys j) ≡ piece z j keys ++ restOf m z ds block j
-unfolding restOf coefficient
+    → blockRow m z ds block keys j ≡ rowOf (piece z j keys) (restOf m z ds block j)
+unfolding blockRow restOf
 row-split m z ds block keys b j e h low =
     let d : ℕ = countOf m z ds j in
-    let lk : length (piece z j keys) ≡ z = length-piece {A = ℕ} z j b keys (omega arith) h in
-    let lr : length (restOf m z ds block j) ≡ d - z = length-tabulate {A = ℕ} (d - z) _ in
-    sym (tabulate-is {A = ℕ} (piece z j keys ++ restOf m z ds block j) d _ 0
-    (length-append (piece z j keys) (restOf m z ds block j) ∙ omega (arith, lk, lr))
-    (λ i l.
-    ⊎-elim
-    (λ (a : i < z).
-    List·getD-append (piece z j keys) (restOf m z ds block j) 0 i (rw lk a)
-    ∙ getD-piece {A = ℕ} z j keys i 0 a
-    ∙ simp (lt-ltb i z a))
-    (λ (a : z ≤ i).
-    let i′ : z + (i - z) ≡ i = omega arith in
-    let at : getD (piece z j keys ++ restOf m z ds block j) (length (piece z j keys) + (i - z)) 0 ≡ getD block (origin m z ds j (z + (i - z))) 0 =
-    getD-append-add (piece z j keys) (restOf m z ds block j) (i - z) 0 ∙ getD-tabulate {A = ℕ} (d - z) _ (i - z) 0 (omega arith) in
-    rw (lk, i′) at at ∙ simp (le-ltb i z a))
-    (lt-or-le i z)))
+    sym (row-table z d (piece z j keys) (restOf m z ds block j) (coefficient m z ds block keys j) low
+    (length-piece {A = ℕ} z j b keys (omega arith) h) (length-tabulate {A = ℕ} (d - z) _)
+    (λ i l. getD-piece {A = ℕ} z j keys i 0 l ∙ sym (coefficient-key m z ds block keys j i l))
+    (λ i g l.
+    let back : z + (i - z) ≡ i = omega arith in
+    getD-tabulate {A = ℕ} (d - z) _ (i - z) 0 (omega arith) ∙ rw back (sym (coefficient-byte m z ds block keys j i g))))
 
 -- ---- a block, seen by some parties
 
@@ -143,7 +129,7 @@ module _ (p : Parameters) (A : Accepted p) (parties : List ℕ) (in-range : Each
       omega (arith, facts .sizes .room, facts .low (groupOf (block p) (p .z) (p .counts) j) (group-place (p .n) (p .r) (p .z) (p .counts) (block p) (rows p) facts j h))
 
   abbrev row : List ℕ → List ℕ → ℕ → List ℕ
-  row bytes keys j = tabulate (countOf (block p) (p .z) (p .counts) j) (coefficient (block p) (p .z) (p .counts) bytes keys j)
+  row bytes keys j = blockRow (block p) (p .z) (p .counts) bytes keys j
 
   -- row j, at the point of each of the parties
   at-row : (keys : List ℕ) → Bytes (rows p * p .z) keys → (j : ℕ) → j < rows p → (a : ℕ) → a < length parties
@@ -159,12 +145,12 @@ module _ (p : Parameters) (A : Accepted p) (parties : List ℕ) (in-range : Each
       let same =
       row-same z points (points-bytes p A parties in-range) (points-distinct p A parties in-range apart) (rw (length-map parties (point p)) few) (rest first j) (rest second j)
       (rest-byte (block p) z (p .counts) first j (h₁ .1)) (rest-byte (block p) z (p .counts) second j (h₂ .1)) (piece z j keys) lk in
-      let at-x : eval x (piece z j keys ++ rest first j) ≡ eval x (sum (piece z j keys) (maskOf j) ++ rest second j) =
+      let at-x : eval x (rowOf (piece z j keys) (rest first j)) ≡ eval x (rowOf (sum (piece z j keys) (maskOf j)) (rest second j)) =
       rw (getD-map {A = ℕ} {B = ℕ} (point p) parties a 0 0 l) at
-      (each-getD {A = ℕ} (λ x. eval x (piece z j keys ++ rest first j) ≡ eval x (sum (piece z j keys) (maskOf j) ++ rest second j)) points a 0 (rw (length-map parties (point p)) l) same) in
+      (each-getD {A = ℕ} (λ x. eval x (rowOf (piece z j keys) (rest first j)) ≡ eval x (rowOf (sum (piece z j keys) (maskOf j)) (rest second j))) points a 0 (rw (length-map parties (point p)) l) same) in
       ap (eval x) (row-split (block p) z (p .counts) first keys b j (K .0) h (above-keys j h))
       ∙ at-x
-      ∙ ap (λ (k : List ℕ). eval x (k ++ rest second j)) (sym e)
+      ∙ ap (λ (k : List ℕ). eval x (rowOf k (rest second j))) (sym e)
       ∙ sym (ap (eval x) (row-split (block p) z (p .counts) second (sum keys mask) b j (length-sum keys mask ∙ K .0) h (above-keys j h)))
 
   -- what the parties have of the block is the same

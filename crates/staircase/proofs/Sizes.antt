@@ -3,8 +3,8 @@
 -- Assumes nothing.
 use mathlib.Core.Path.{_≡_, ap, _∙_}
 use mathlib.Core.Bool.{true}
-use Prim.Native.Nat.{ℕ, _-_, _*_, _/_, _≤_, _<_}
-use native.Mathlib.Nat.{div-le-of-le-mul, div-le-self, div-mul-le-self, le-div-iff-mul-le, le-trans, mul-le-mul-left, mul-le-mul}
+use Prim.Native.Nat.{ℕ, _-_, _*_, _≤_}
+use native.Mathlib.Nat.{div-le-of-le-mul, div-le-self, le-trans, mul-le-mul}
 use native.Mathlib.Omega.{arith}
 use Rattle.lists.specs.Each.{occurs}
 use Rattle.lists.proofs.Each.{occurs-place}
@@ -14,6 +14,7 @@ use Rattle.scheme.specs.Limits.{maxParties, maxBlock, maxMessage}
 use Rattle.scheme.specs.Check.{rowsOfCount, rowsOfBlock, blockCount}
 use Rattle.scheme.proofs.Laws.{accepted}
 use Rattle.staircase.specs.Parameters.{Parameters, Accepted, block, rows}
+use Rattle.staircase.proofs.Groups as groups
 
 -- P is no more than the block length
 pub rows-few : (m z d P : ℕ) → m ≤ maxBlock → P ≡ rowsOfCount m z d → P ≤ maxBlock
@@ -34,24 +35,18 @@ module _ (p : Parameters) (good : Accepted p) where
       let positive = accepted (p .n) (p .r) (p .z) (p .counts) good .least .positive in
       div-le-of-le-mul (block p) (omega arith)
 
-  -- a count is at least n − r and at most n, so at most 16
-  count-within : (d : ℕ) → occurs d (p .counts) ≡ true → (p .n - p .r ≤ d) × (d ≤ p .n)
-  count-within d e =
+  -- a count is at most n, so at most 16
+  pub count-most : (d : ℕ) → occurs d (p .counts) ≡ true → d ≤ maxParties
+  count-most d e =
       let a = accepted (p .n) (p .r) (p .z) (p .counts) good in
       let at = occurs-place d (p .counts) e in
-      (omega (arith, at .2, a .low (at .0) (at .1)), omega (arith, at .2, a .high (at .0) (at .1)))
-
-  pub count-most : (d : ℕ) → occurs d (p .counts) ≡ true → d ≤ maxParties
-  count-most d e = le-trans (count-within d e .1) (accepted (p .n) (p .r) (p .z) (p .counts) good .sizes .parties-high)
+      omega (arith, at .2, a .high (at .0) (at .1), a .sizes .parties-high)
 
   -- P is at most b
   pub rows-within : (d : ℕ) → occurs d (p .counts) ≡ true → rowsOfCount (block p) (p .z) d ≤ rows p
-  unfolding rowsOfCount rowsOfBlock
   rows-within d e =
-      let s = accepted (p .n) (p .r) (p .z) (p .counts) good .sizes in
-      let k : 0 < p .n - p .r - p .z = omega (arith, s .room) in
-      let l : p .n - p .r - p .z ≤ d - p .z = omega (arith, count-within d e .0) in
-      le-div-iff-mul-le k .1 (le-trans (mul-le-mul-left (block p / (d - p .z)) l) (div-mul-le-self (block p) (d - p .z)))
+      let at = occurs-place d (p .counts) e in
+      rw (at .2) at (groups.rows-most (p .n) (p .r) (p .z) (p .counts) (block p) (rows p) (accepted (p .n) (p .r) (p .z) (p .counts) good) (at .0) (at .1))
 
 -- the code's numbers: s is what the check answers, and N the blocks of the message
 module _ (p : Parameters) (s : Scheme) (is : SchemeIs s (p .n) (p .r) (p .z) (p .counts)) (message N : ℕ) (N-is : N ≡ blockCount (s .block) message) where

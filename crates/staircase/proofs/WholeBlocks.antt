@@ -4,14 +4,14 @@ use mathlib.Core.Path.{_≡_, sym, ap, _∙_}
 use mathlib.Core.Bool.{true}
 use mathlib.Core.List.{List, map}
 use Prim.Native.Nat.{ℕ, _+_, _*_, _<_}
-use native.Mathlib.Nat.{mul-assoc, mul-comm, add-mul}
+use native.Mathlib.Nat.{mul-assoc, mul-comm}
 use native.Mathlib.Omega.{arith}
 use lib.ListN.{length, getD, take}
 use lib.Seq.{getD-take}
 use Rattle.lists.specs.Each.{Each, Distinct, occurs}
 use Rattle.lists.specs.Table.{piece}
 use Rattle.lists.proofs.Each.{occurs-place}
-use Rattle.lists.proofs.Joined.{below-product}
+use Rattle.lists.proofs.Joined.{below-product, place-in}
 use Rattle.lists.proofs.Piece.{getD-piece}
 use Rattle.scheme.specs.Check.{blockCount, rowsOfCount}
 use Rattle.family.specs.Message.{Bytes}
@@ -54,11 +54,9 @@ module _ (p : Parameters) (A : Accepted p) (parties : List ℕ) (counted : occur
   unfolding staircase
   key-at N t j e keys hj he =
       let few = rows-within p A (length parties) counted in
-      let place : t * (rows p * p .z) + (j * p .z + e) ≡ (t * rows p + j) * p .z + e =
-      omega (arith, add-mul (t * rows p) j (p .z), mul-assoc t (rows p) (p .z)) in
       getD-take (sent * p .z) (piece (rows p * p .z) t keys) (j * p .z + e) 0 (below-product j sent e (p .z) hj he)
       ∙ getD-piece {A = ℕ} (rows p * p .z) t keys (j * p .z + e) 0 (below-product j (rows p) e (p .z) (omega (arith, few)) he)
-      ∙ ap (λ (k : ℕ). getD keys k 0) place
+      ∙ ap (λ (k : ℕ). getD keys k 0) (place-in t (rows p) j e (p .z))
 
   opened : (message : ℕ) (prefixes : List ℕ) → Bytes (prefixBytes p (length parties) (blockCount (block p) message)) prefixes → Opened p message parties prefixes
   unfolding openedString staircase

@@ -10,8 +10,8 @@ use lib.ListN.{length, getD, set, replicate}
 use Rattle.lists.specs.Each.{Byte}
 use Rattle.lists.specs.Table.{tabulate}
 use Rattle.gf256.specs.Byte.{_⊕_}
-use Rattle.interpolation.specs.Polynomial.{eval}
-use Rattle.interpolation.specs.Interpolation.{through}
+use Rattle.interpolation.specs.Polynomial.{eval, above}
+use Rattle.interpolation.specs.Interpolation.{fitted}
 use Rattle.scheme.specs.Check.{rowsOfCount}
 use Rattle.family.specs.Message.{Bytes}
 use Rattle.staircase.specs.Coefficients.{countOf, origin, coefficient}
@@ -22,13 +22,13 @@ blockRow m z ds block keys j = tabulate (countOf m z ds j) (coefficient m z ds b
 
 -- its coefficients of degree d and more, message bytes all, with zeros at the degrees below
 unfoldable pub upperPart : ℕ → ℕ → List ℕ → ℕ → List ℕ → ℕ → List ℕ
-upperPart m z ds d block j = tabulate (countOf m z ds j) (λ e. cond (ltb e d) 0 (getD block (origin m z ds j e) 0))
+upperPart m z ds d block j = above d (tabulate (countOf m z ds j) (λ e. getD block (origin m z ds j e) 0))
 
 -- its coefficients below degree d, from its values v j a at the d points, where the block holds the upper ones: what the upper ones add to
 -- the values is taken away, and the polynomial through the points found
 unfoldable pub lowerPart : ℕ → ℕ → List ℕ → List ℕ → (ℕ → ℕ → ℕ) → List ℕ → ℕ → List ℕ
 lowerPart m z ds xs v block j =
-    through xs (tabulate (length xs) (λ a. v j a ⊕ eval (getD xs a 0) (upperPart m z ds (length xs) block j)))
+    fitted (length xs) xs (tabulate (length xs) (λ a. v j a ⊕ eval (getD xs a 0) (upperPart m z ds (length xs) block j)))
 
 -- the block with the coefficients of row j of the degrees z to z + many − 1 written to their origins
 unfoldable pub placed : ℕ → ℕ → List ℕ → ℕ → List ℕ → ℕ → List ℕ → List ℕ
@@ -60,18 +60,13 @@ abbrev pub HasValues : ℕ → ℕ → List ℕ → List ℕ → (ℕ → ℕ �
 HasValues m z ds xs v block keys =
     (j a : ℕ) → j < rowsOfCount m z (length xs) → a < length xs → eval (getD xs a 0) (blockRow m z ds block keys j) ≡ v j a
 
--- the values of the P rows at the points fix the block and the keys of these rows, any bytes are such values, and the opening finds them
+-- any bytes are the values at the points of the P rows of the opened block, and such values fix the block and the keys of these rows
 pub record BlockExact (m b z : ℕ) (ds xs : List ℕ) : Type 0 where
-  pub unique : (v : ℕ → ℕ → ℕ) (block keys block′ keys′ : List ℕ) → Bytes m block → Bytes (b * z) keys → Bytes m block′ → Bytes (b * z) keys′
-      → HasValues m z ds xs v block keys → HasValues m z ds xs v block′ keys′ → block ≡ block′
-  pub keys-unique : (v : ℕ → ℕ → ℕ) (block keys block′ keys′ : List ℕ) → Bytes m block → Bytes (b * z) keys → Bytes m block′ → Bytes (b * z) keys′
-      → HasValues m z ds xs v block keys → HasValues m z ds xs v block′ keys′
-      → (j e : ℕ) → j < rowsOfCount m z (length xs) → e < z → getD keys (j * z + e) 0 ≡ getD keys′ (j * z + e) 0
   pub exists : (v : ℕ → ℕ → ℕ) → ((j a : ℕ) → j < rowsOfCount m z (length xs) → a < length xs → Byte (v j a))
       → HasValues m z ds xs v (openedBlock m z ds xs v) (openedKeys m b z ds xs v)
   pub block-bytes : (v : ℕ → ℕ → ℕ) → Bytes m (openedBlock m z ds xs v)
   pub keys-bytes : (v : ℕ → ℕ → ℕ) → Bytes (b * z) (openedKeys m b z ds xs v)
-  -- so the values of a block's rows open to the block, and to the keys of these rows
+  -- the values of a block's rows open to the block, and to the keys of these rows
   pub returns : (v : ℕ → ℕ → ℕ) (block keys : List ℕ) → Bytes m block → Bytes (b * z) keys → HasValues m z ds xs v block keys
       → openedBlock m z ds xs v ≡ block
   pub keys-return : (v : ℕ → ℕ → ℕ) (block keys : List ℕ) → Bytes m block → Bytes (b * z) keys → HasValues m z ds xs v block keys

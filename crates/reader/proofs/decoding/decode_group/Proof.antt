@@ -13,7 +13,7 @@ use Rattle.reader.specs.Decoding.{maxUsize, BasisOf, Sent, Found, rowsBe
 use Rattle.rows.specs.Sources.{RowOrigins}
 use Rattle.rows.proofs.Scheme.{facts-of, rows-high}
 use Rattle.rows.proofs.Laws.{row-origins}
-use Rattle.reader.proofs.LaterRows.{count-low, count-high, prefix-few, group-rows}
+use Rattle.reader.proofs.LaterRows.{order-of, count-high, prefix-few, group-rows}
 use Rattle.reader.proofs.RowOrder.{TookRows, took-first, took-last, counted-none, counted-more, counted-within, counted-all, RowAt, row-below, row-count, row-place, row-done}
 use Rattle.reader.proofs.decoding.decode_group.Statement.{statement}
 use Rattle.reader.proofs.decoding.decode_group.Tie as tie
@@ -112,7 +112,7 @@ decode-group-spec =
     let s = st i in
     let a = s .args in (
       record {
-        z-low = le-of-lt (count-low (a .s) (a .counts .now) (s .pre .0) (a .d) (s .pre .1));
+        z-low = le-of-lt (order-of (a .s) (a .counts .now) (s .pre .0) (a .d) (s .pre .1) .above);
         d-high = count-high (a .s) (a .counts .now) (s .pre .0) (a .d) (s .pre .1);
         m-high = facts-of (a .s) (a .counts .now) (s .pre .0) .limit;
         blocks-high = s .pre .2;
