@@ -1,6 +1,6 @@
 -- The laws of polynomials and of interpolation over bytes, for whoever cites them.
 -- Assumes nothing.
-pub use Rattle.interpolation.proofs.Polynomial.{eval-plus, eval-scale, eval-zeros, eval-append, eval-append-zeros, eval-linear, eval-none, eval-more, eval-down, eval-byte}
+pub use Rattle.interpolation.proofs.Polynomial.{eval-plus, eval-scale, eval-zeros, eval-append, eval-append-zeros, eval-linear, eval-table, eval-byte}
 pub use Rattle.interpolation.proofs.Polynomial.{plus-at, plus-byte, plus-length, plus-length-longer, scale-at, scale-byte, scale-length}
 pub use Rattle.interpolation.proofs.Polynomial.{linear-first, linear-next, linear-byte, linear-length, product-byte, product-length, product-next, product-zero, product-nonzero}
 pub use Rattle.interpolation.proofs.Above.{above-byte, above-is, above-same, above-none, plus-above, lower-value}

@@ -7,12 +7,13 @@ use Prim.Native.Nat.{ℕ, zero, suc, _-_, _≤_, _<_}
 use native.Mathlib.Nat.{le-of-suc-le-suc, not-suc-le-zero, suc-inj}
 use native.Mathlib.Omega.{arith}
 use lib.Dec.{lit<}
-use lib.ListN.{length, getD, drop, replicate}
-use lib.Seq.{drop-cons}
+use lib.ListN.{length, getD, replicate}
 use Rattle.lists.specs.Each.{Each, Byte}
+use Rattle.lists.specs.Table.{tabulate}
+use Rattle.lists.proofs.Table.{length-tabulate}
 use Rattle.gf256.specs.Byte.{_⊕_, _⊗_, power}
-use Rattle.gf256.proofs.Laws.{⊕-assoc, ⊕-left-comm, zero-⊕, ⊕-zero, ⊕-self, ⊕-equal, ⊕-byte, ⊗-assoc, ⊗-left-comm, ⊗-⊕, ⊕-⊗, ⊗-zero, zero-⊗, one-⊗, ⊗-byte, no-zero-divisors}
-use Rattle.interpolation.specs.Polynomial.{next, eval, plus, scale, linear, product}
+use Rattle.gf256.proofs.Laws.{⊕-assoc, ⊕-left-comm, zero-⊕, ⊕-zero, ⊕-self, ⊕-equal, ⊕-byte, ⊗-assoc, ⊗-comm, ⊗-left-comm, ⊗-⊕, ⊕-⊗, ⊗-zero, zero-⊗, one-⊗, ⊗-byte, no-zero-divisors}
+use Rattle.interpolation.specs.Polynomial.{next, eval, plus, scale, linear, product, sumTo}
 
 -- ---- values
 
@@ -49,21 +50,14 @@ unfolding next eval linear
 eval-linear x p low [] = simp (⊗-zero)
 eval-linear x p low (c ∷ cs) = simp (eval-linear x p c cs, ⊗-⊕, ⊕-⊗, ⊗-left-comm, ⊕-assoc, ⊕-left-comm)
 
--- from the highest coefficient down, as a loop takes them: nothing yet, and one coefficient more
-pub eval-none : (x : ℕ) (cs : List ℕ) → eval x (drop (length cs) cs) ≡ 0
-unfolding eval
-eval-none x [] = refl
-eval-none x (c ∷ cs) = eval-none x cs
-
-pub eval-more : (x : ℕ) (cs : List ℕ) (j : ℕ) → j < length cs → eval x (drop j cs) ≡ next x (eval x (drop (suc j) cs)) (getD cs j 0)
-unfolding eval
-eval-more x cs j h = ap (eval x) (drop-cons cs j 0 h)
-
--- the same where j is counted down
-pub eval-down : (x : ℕ) (cs : List ℕ) (j : ℕ) → 0 < j → j ≤ length cs → eval x (drop (j - 1) cs) ≡ next x (eval x (drop j cs)) (getD cs (j - 1) 0)
-eval-down x cs j p h =
-    let e : suc (j - 1) ≡ j = omega arith in
-    rw e at (eval-more x cs (j - 1) (omega arith))
+-- the value is the sum of the coefficients times the powers of x
+pub eval-table : (x n : ℕ) (f : ℕ → ℕ) → ((e : ℕ) → e < n → Byte (f e)) → eval x (tabulate n f) ≡ sumTo n (λ e. f e ⊗ power x e)
+unfolding tabulate sumTo next eval
+eval-table x zero f h = refl
+eval-table x (suc n) f h =
+    let one : eval x (f n ∷ []) ≡ f n = simp (⊗-zero, ⊕-zero) in
+    eval-append x (tabulate n f) (f n ∷ []) (rw one (h n (omega arith)))
+    ∙ rw (one, length-tabulate n f, eval-table x n f (λ e l. h e (omega arith)), ⊗-comm (power x n) (f n))
 
 -- the value of a polynomial of bytes is a byte
 pub eval-byte : (x : ℕ) (cs : List ℕ) → Each Byte cs → Byte (eval x cs)

@@ -1,13 +1,11 @@
--- What a party has of a block, and what the splitter writes, byte by byte: the value, at the party's point, of the row's keys and message bytes.
+-- What a party has of a block, row by row: the value, at its point, of the row's keys and message bytes.
 -- Assumes nothing.
 use mathlib.Core.Path.{_≡_, sym, ap, _∙_}
-use mathlib.Core.Bool.{cond}
 use mathlib.Core.Logic.{⊎-elim}
 use mathlib.Core.List.{List, []}
-use Prim.Native.Nat.{ℕ, _+_, _-_, _*_, _≤_, _<_}
+use Prim.Native.Nat.{ℕ, _+_, _*_, _≤_, _<_}
 use native.Mathlib.Nat.{le-of-eq}
 use borrow.Author.Tests.{lt-ltb, le-ltb}
-use lib.Dec.{ltb}
 use lib.ListN.{length, getD}
 use Rattle.lists.specs.Table.{tabulate, piece}
 use Rattle.lists.proofs.Tests.{lt-or-le}
@@ -16,17 +14,13 @@ use Rattle.lists.proofs.Each.{getD-map}
 use Rattle.lists.proofs.Joined.{below-product, place-in}
 use Rattle.lists.proofs.Piece.{length-piece, getD-piece}
 use Rattle.interpolation.specs.Polynomial.{eval}
-use Rattle.scheme.specs.Check.{blockCount}
 use Rattle.scheme.specs.Facts as facts
 use Rattle.scheme.proofs.Laws.{accepted}
-use Rattle.family.specs.Message.{padded}
-use Rattle.family.proofs.Message.{length-padded}
-use Rattle.family.proofs.Shares.{shares-byte}
-use Rattle.staircase.specs.Parameters.{Parameters, Accepted, Party, block, rows, point}
+use Rattle.staircase.specs.Parameters.{Parameters, Accepted, block, rows, point}
 use Rattle.staircase.specs.Rows.{rowsOf}
 use Rattle.staircase.specs.Coefficients.{countOf, origin, coefficientAt}
 use Rattle.staircase.specs.Opening.{blockRow}
-use Rattle.staircase.specs.Shares.{staircase, shares}
+use Rattle.staircase.specs.Shares.{staircase}
 use Rattle.staircase.proofs.Origin.{origin-below}
 use Rattle.staircase.proofs.Rows.{rows-are, rows-number, coefficient-key, coefficient-byte}
 
@@ -77,21 +71,3 @@ module _ (p : Parameters) (ok : Accepted p) where
         column-at (piece (block p) t blocks) (piece (rows p * p .z) t keys) (length-piece (block p) t N blocks (le-of-eq (sym whole)) ht)
         (length-piece (rows p * p .z) t N keys (le-of-eq (sym enough)) ht) s j hj
         ∙ ap (eval (point p s)) part-row
-
-  -- the byte of party s, of row j of block t
-  pub output-byte : (message keys : List ℕ) (s j t : ℕ)
-      → length keys ≡ blockCount (block p) (length message) * (rows p * p .z)
-      → Party p s → j < rows p → t < blockCount (block p) (length message)
-      → getD (shares p message keys)
-      ((s - 1) * (rows p * blockCount (block p) (length message)) + j * blockCount (block p) (length message) + t) 0
-      ≡ eval (point p s)
-      (tabulate (countOf (block p) (p .z) (p .counts) j)
-      (λ e.
-      cond (ltb e (p .z)) (getD keys ((t * rows p + j) * p .z + e) 0)
-      (getD (padded (block p) message) (t * block p + origin (block p) (p .z) (p .counts) j e) 0)))
-  unfolding shares staircase coefficientAt
-  output-byte message keys s j t enough party hj ht =
-      let N : ℕ = blockCount (block p) (length message) in
-      let blocks : List ℕ = padded (block p) message in
-      shares-byte (staircase p) N blocks keys (p .n) s j t (party .0) (party .1) hj ht
-      ∙ part-at N blocks keys (length-padded (block p) message (known .least .positive)) enough t j ht hj s

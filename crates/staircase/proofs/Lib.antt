@@ -12,4 +12,5 @@ pub mod OneRow
 pub mod Opening
 pub mod Exactness
 pub mod WholeBlocks
+pub mod Construction
 pub mod Sizes
