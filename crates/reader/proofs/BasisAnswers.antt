@@ -1,5 +1,5 @@
--- The first refusal for a list of parties at each of the code's ways out, the answer and the table that follow from it, and what holds where
--- no refusal applies.
+-- What a call for a basis answers at each of its ways out, the table that follows from the answer for its size, and what holds where no refusal
+-- applies.
 -- Assumes nothing.
 use mathlib.Core.Path.{_≡_, sym, ap, _∙_}
 use mathlib.Core.Bool.{true, false}
@@ -15,56 +15,60 @@ use Rattle.lists.proofs.Table.{tabulate-is}
 use Rattle.interpolation.specs.Interpolation.{side, basisTable}
 use Rattle.scheme.specs.declared.Scheme.{Scheme}
 use Rattle.scheme.specs.declared.SchemeAnswer.{SchemeAnswer}
-use Rattle.scheme.specs.declared.SchemeAnswer.the-variants.{Refused}
-use Rattle.scheme.specs.Outcome.{Outcome, accepted, refused, schemeOutcome, firstOf}
+use Rattle.scheme.specs.declared.SchemeAnswer.the-variants.{Refused as SchemeRefused}
+use Rattle.scheme.specs.declared.Answer.{Answer}
+use Rattle.scheme.specs.declared.Answer.the-variants.{Accepted as Answered, Refused}
+use Rattle.scheme.specs.Outcome.{accepted, refused, outcome, schemeOutcome, firstOf, answer}
 use Rattle.scheme.specs.Facts.{SchemeIs}
 use Rattle.scheme.specs.Check.{checked}
-use Rattle.scheme.proofs.Laws as scheme
 use Rattle.staircase.specs.Parameters.{Parameters, Accepted, Party, point}
 use Rattle.staircase.proofs.Sizes.{count-most}
 use Rattle.scheme.specs.Readers.{readersRefused}
 use Rattle.reader.specs.Basis.{basisRefusal, basisAnswer, zeroTable, basisOf}
-use Rattle.scheme.proofs.Laws.{first-none, when-none, answer-none, answer-some, answer-number, scheme-refused, parties-distinct}
+use Rattle.scheme.proofs.Laws.{first-none, when-none, answer-number, answered-none, answered-some, scheme-refused, parties-distinct}
 
--- ---- the first refusal
+-- ---- the answer
 
-module _ (p : Parameters) (parties : List ℕ) where
-  -- the scheme's own
-  pub scheme-refuses : (a : SchemeAnswer) (k q : ℕ) → schemeOutcome a ≡ checked (p .n) (p .r) (p .z) (p .counts) → a ≡ Refused k
-      → q ≡ schemeOutcome a .number → q ≡ basisRefusal p parties
-  unfolding basisRefusal
-  scheme-refuses a k q e told is =
-      ap (λ (o : Outcome). o .number) (scheme-refused (p .n) (p .r) (p .z) (p .counts) a k q e told is _ []) ∙ answer-number _ []
+-- the scheme's own refusals
+pub scheme-refuses : (p : Parameters) (parties : List ℕ) (a : SchemeAnswer) (k q : ℕ) → schemeOutcome a ≡ checked (p .n) (p .r) (p .z) (p .counts)
+    → a ≡ SchemeRefused k → q ≡ schemeOutcome a .number → refused q ≡ basisAnswer p parties
+unfolding basisAnswer basisRefusal
+scheme-refuses p parties a k q e told is = scheme-refused (p .n) (p .r) (p .z) (p .counts) a k q e told is _ _
 
-  -- past it: s is the scheme that the check answers
-  module _ (s : Scheme) (is : SchemeIs s (p .n) (p .r) (p .z) (p .counts)) where
-    pub no-count : occurs (length parties) (p .counts) ≡ false → 6 ≡ basisRefusal p parties
-    unfolding basisRefusal firstOf
-    no-count e = simp (is .passed, e)
+-- past them: s is the scheme that the check answers
+module _ (p : Parameters) (parties : List ℕ) (s : Scheme) (is : SchemeIs s (p .n) (p .r) (p .z) (p .counts)) where
+  pub no-count : occurs (length parties) (p .counts) ≡ false → refused 6 ≡ basisAnswer p parties
+  unfolding basisAnswer basisRefusal firstOf answer
+  no-count e = simp (is .passed, e)
 
-    module _ (count : occurs (length parties) (p .counts) ≡ true) where
-      pub not-rising : readersRefused (s .n) parties ≡ true → 7 ≡ basisRefusal p parties
-      unfolding basisRefusal firstOf
-      not-rising e = simp (is .passed, count, rw (is .n-is) at e)
+  module _ (count : occurs (length parties) (p .counts) ≡ true) where
+    pub not-rising : readersRefused (s .n) parties ≡ true → refused 7 ≡ basisAnswer p parties
+    unfolding basisAnswer basisRefusal firstOf answer
+    not-rising e = simp (is .passed, count, rw (is .n-is) at e)
 
-      pub none-applies : readersRefused (s .n) parties ≡ false → 0 ≡ basisRefusal p parties
-      unfolding basisRefusal firstOf
-      none-applies e = simp (is .passed, count, rw (is .n-is) at e)
+    pub sized : readersRefused (s .n) parties ≡ false → accepted (length parties ∷ []) ≡ basisAnswer p parties
+    unfolding basisAnswer basisRefusal firstOf answer
+    sized e = simp (is .passed, count, rw (is .n-is) at e)
 
-  -- the answer, from the number q of the first refusal
-  module _ (q : ℕ) (is : q ≡ basisRefusal p parties) where
-    pub answer-accepted : q ≡ 0 → accepted (length parties ∷ []) ≡ basisAnswer p parties
-    unfolding basisAnswer
-    answer-accepted e = sym (answer-none (basisRefusal p parties) (length parties ∷ []) (sym is ∙ e))
+-- ---- the table
 
-    pub answer-refused : (q ≡ 0 → ⊥) → refused q ≡ basisAnswer p parties
-    unfolding basisAnswer
-    answer-refused h = rw is (sym (answer-some (basisRefusal p parties) (length parties ∷ []) (omega arith)))
+pub table-none : (p : Parameters) (parties : List ℕ) → (basisRefusal p parties ≡ 0 → ⊥) → zeroTable ≡ basisOf p parties
+unfolding basisOf
+table-none p parties h = rw (ne-eqb (basisRefusal p parties) 0 h)
 
-    -- and the table
-    pub table-none : (q ≡ 0 → ⊥) → zeroTable ≡ basisOf p parties
-    unfolding basisOf
-    table-none h = rw (ne-eqb (basisRefusal p parties) 0 (λ e. h (is ∙ e)))
+-- the code's two ways out, from the answer a for the size
+module _ (p : Parameters) (parties : List ℕ) (a : Answer) (e : outcome a ≡ basisAnswer p parties) where
+  pub table-refused : (q : ℕ) → a ≡ Refused q → zeroTable ≡ basisOf p parties
+  unfolding basisAnswer
+  table-refused q told =
+      let some = answered-some _ q _ [] (sym (ap outcome told) ∙ e) in
+      table-none p parties (λ none. omega (arith, some .1))
+
+  pub size-is : (d : ℕ) → a ≡ Answered d → (basisRefusal p parties ≡ 0) × (d ≡ length parties)
+  unfolding basisAnswer
+  size-is d told =
+      let none = answered-none _ _ _ (sym (ap outcome told) ∙ e) in
+      (none .0, cc (none .1))
 
 -- ---- what holds where no refusal applies
 

@@ -128,4 +128,4 @@ module _ (p : Parameters) (parties : List ℕ) (none : basisRefusal p parties �
 
 pub entry-refused : (p : Parameters) (parties : List ℕ) → (basisRefusal p parties ≡ 0 → ⊥) → (i e : ℕ) → entry (basisOf p parties) i e ≡ 0
 unfolding zeroTable
-entry-refused p parties h i e = rw (← table-none p parties (basisRefusal p parties) refl h) (entry-zero (λ k d. 0) i e refl)
+entry-refused p parties h i e = rw (← table-none p parties h) (entry-zero (λ k d. 0) i e refl)

@@ -6,7 +6,7 @@ ghost use lib.ListN.{length, take};
 ghost use Rattle.interpolation.specs.Interpolation.{side};
 ghost use Rattle.scheme.specs.Outcome.{outcome};
 ghost use Rattle.staircase.specs.Parameters.{Parameters, parameters, defaultParameters, point};
-ghost use Rattle.reader.specs.Basis.{basisRefusal, basisAnswer, basisOf};
+ghost use Rattle.reader.specs.Basis.{basisAnswer, basisOf};
 use interpolation::SIDE;
 use scheme::Answer;
 use scheme::SchemeAnswer;
@@ -17,11 +17,17 @@ use scheme::limits;
 pub fn basis_size(n: u8, r: u8, z: u8, counts: &[u8], parties: &[u8]) -> Answer
     ensures { λ a. ⌜ outcome a ≡ basisAnswer (parameters n r z (now (counts .entry))) (now (parties .entry)) ⌝ }
 {
-    let number = first_refusal(n, r, z, counts, parties);
-    if number == 0 {
-        return Answer::Accepted(parties.len());
+    let answer = scheme::check(n, r, z, counts);
+    let SchemeAnswer::Accepted(s) = answer else {
+        return Answer::Refused(scheme::refusal(answer));
+    };
+    if !scheme::is_count(parties.len(), counts) {
+        return Answer::Refused(6);
     }
-    Answer::Refused(number)
+    if scheme::readers_refused(s.n, parties) {
+        return Answer::Refused(7);
+    }
+    Answer::Accepted(parties.len())
 }
 
 // The basis itself: in row i, at column e, the coefficient of degree e of the polynomial of degree below
@@ -30,11 +36,10 @@ pub fn basis_size(n: u8, r: u8, z: u8, counts: &[u8], parties: &[u8]) -> Answer
 pub fn basis(n: u8, r: u8, z: u8, counts: &[u8], parties: &[u8]) -> [[u8; SIDE]; SIDE]
     ensures { λ w. ⌜ w ≡ basisOf (parameters n r z (now (counts .entry))) (now (parties .entry)) ⌝ }
 {
-    if first_refusal(n, r, z, counts, parties) != 0 {
+    let Answer::Accepted(d) = basis_size(n, r, z, counts, parties) else {
         return [[0u8; SIDE]; SIDE];
-    }
+    };
     let points = points_of(parties);
-    let d = parties.len();
     interpolation::basis(&points[..d])
 }
 
@@ -64,23 +69,6 @@ pub fn basis_default(parties: &[u8]) -> [[u8; SIDE]; SIDE]
         &counts,
         parties,
     )
-}
-
-// The number of the first refusal that applies, 0 where none does.
-fn first_refusal(n: u8, r: u8, z: u8, counts: &[u8], parties: &[u8]) -> u8
-    ensures { λ q. ⌜ q ≡ basisRefusal (parameters n r z (now (counts .entry))) (now (parties .entry)) ⌝ }
-{
-    let answer = scheme::check(n, r, z, counts);
-    let SchemeAnswer::Accepted(s) = answer else {
-        return scheme::refusal(answer);
-    };
-    if !scheme::is_count(parties.len(), counts) {
-        return 6;
-    }
-    if scheme::readers_refused(s.n, parties) {
-        return 7;
-    }
-    0
 }
 
 // The points of at most 16 parties, in their order.
