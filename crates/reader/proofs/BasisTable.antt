@@ -10,6 +10,7 @@ use native.Mathlib.Omega.{arith}
 use lib.Dec.{eqb}
 use lib.ListN.{length, getD, take, length-map, List·getD-eq-default}
 use lib.Seq.{ext-getD, getD-take, length-take-le}
+use borrow.Author.Tests.{ne-eqb}
 use Rattle.lists.specs.Each.{Each, Distinct, Byte}
 use Rattle.lists.specs.Table.{tabulate}
 use Rattle.lists.proofs.Each.{getD-map, true-distinct}
@@ -21,7 +22,7 @@ use Rattle.interpolation.proofs.Laws.{basis-length, basis-at, basis-unique, wei
 use Rattle.staircase.specs.Parameters.{Parameters, point}
 use Rattle.staircase.proofs.Points.{points-bytes, points-distinct}
 use Rattle.reader.specs.Basis.{basisRefusal, zeroTable, basisOf}
-use Rattle.reader.proofs.BasisAnswers.{basis-given, parties-few, table-given, table-none}
+use Rattle.reader.proofs.BasisAnswers.{basis-given, parties-few, table-given}
 
 -- entry e of row i
 abbrev entry : List (List ℕ) → ℕ → ℕ → ℕ
@@ -127,5 +128,5 @@ module _ (p : Parameters) (parties : List ℕ) (none : basisRefusal p parties �
 -- ---- a refusal applies
 
 pub entry-refused : (p : Parameters) (parties : List ℕ) → (basisRefusal p parties ≡ 0 → ⊥) → (i e : ℕ) → entry (basisOf p parties) i e ≡ 0
-unfolding zeroTable
-entry-refused p parties h i e = rw (← table-none p parties h) (entry-zero (λ k d. 0) i e refl)
+unfolding basisOf zeroTable
+entry-refused p parties h i e = rw (ne-eqb (basisRefusal p parties) 0 h) (entry-zero (λ k d. 0) i e refl)
