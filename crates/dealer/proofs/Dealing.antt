@@ -1,4 +1,4 @@
--- What the splitter answers and writes at each of its ways out, and the length of what it writes.
+-- What the splitter answers and writes where no refusal applies, and the length of what it writes.
 -- Assumes nothing.
 use mathlib.Core.Path.{_≡_, sym, ap, _∙_}
 use mathlib.Core.List.{List, [], _∷_}
@@ -7,16 +7,14 @@ use Prim.Native.Nat.{ℕ, _+_, _*_, _≤_, _<_}
 use native.Mathlib.Nat.{mul-le-mul, mul-assoc, mul-comm, eq-zero-or-pos}
 use native.Mathlib.Omega.{arith}
 use lib.ListN.{length}
-use borrow.Author.Tests.{lt-ltb, le-ltb, eq-eqb, ne-eqb, ltb-false, eqb-true, not-false}
+use borrow.Author.Tests.{ltb-false, eqb-true, not-false}
 use Rattle.lists.specs.Table.{tabulate, joined}
 use Rattle.scheme.specs.declared.Scheme.{Scheme}
-use Rattle.scheme.specs.declared.SchemeAnswer.{SchemeAnswer}
-use Rattle.scheme.specs.declared.SchemeAnswer.the-variants.{Refused}
 use Rattle.scheme.specs.Facts.{SchemeIs}
 use Rattle.scheme.specs.Limits.{maxParties, maxBlock, maxMessage}
-use Rattle.scheme.specs.Outcome.{accepted, refused, schemeOutcome, firstOf, answer}
-use Rattle.scheme.specs.Check.{checked, blockCount}
-use Rattle.scheme.proofs.Laws.{accepted as accepted-facts, first-none, when-none, answer-none, answered-some, scheme-refused}
+use Rattle.scheme.specs.Outcome.{accepted}
+use Rattle.scheme.specs.Check.{blockCount}
+use Rattle.scheme.proofs.Laws.{accepted as accepted-facts, done, pass, pass-within, pass-same, numbered, answer-none, kept, first-none, first-when}
 use Rattle.family.specs.Message.{padded}
 use Rattle.family.proofs.Shares.{length-shares}
 use Rattle.staircase.specs.Parameters.{Parameters, Accepted, parameters, block, rows, point}
@@ -26,72 +24,9 @@ use Rattle.staircase.proofs.Bytes.{shares-are}
 use Rattle.dealer.specs.Split.{splitRefusal, splitAnswer, splitOutput}
 use Rattle.staircase.proofs.Sizes.{rows-most, blocks-are, blocks-few, share-length}
 
--- ---- the answer, from the three lengths
+-- ---- no refusal applies
 
--- the scheme's own refusals
-pub scheme-refuses : (p : Parameters) (message keys out : ℕ) (a : SchemeAnswer) (k q : ℕ) → schemeOutcome a ≡ checked (p .n) (p .r) (p .z) (p .counts)
-    → a ≡ Refused k → q ≡ schemeOutcome a .number → refused q ≡ splitAnswer p message keys out
-unfolding splitAnswer splitRefusal
-scheme-refuses p message keys out a k q e told is = scheme-refused (p .n) (p .r) (p .z) (p .counts) a k q e told is _ _
-
--- no refusal of the scheme applies
-module _ (p : Parameters) (good : Accepted p) (message keys out : ℕ) where
-  pub message-long : maxMessage < message → refused 5 ≡ splitAnswer p message keys out
-  unfolding splitAnswer splitRefusal firstOf answer
-  message-long h = simp (good, lt-ltb maxMessage message h)
-
-  module _ (short : message ≤ maxMessage) where
-    pub other-keys : (keys ≡ blockCount (block p) message * p .z * rows p → ⊥) → refused 8 ≡ splitAnswer p message keys out
-    unfolding splitAnswer splitRefusal firstOf answer
-    other-keys h = simp (good, le-ltb maxMessage message short, ne-eqb keys (blockCount (block p) message * p .z * rows p) h)
-
-    module _ (enough : keys ≡ blockCount (block p) message * p .z * rows p) where
-      pub other-output : (out ≡ p .n * blockCount (block p) message * rows p → ⊥) → refused 10 ≡ splitAnswer p message keys out
-      unfolding splitAnswer splitRefusal firstOf answer
-      other-output h =
-          simp (
-            good,
-            le-ltb maxMessage message short,
-            eq-eqb keys (blockCount (block p) message * p .z * rows p) enough,
-            ne-eqb out (p .n * blockCount (block p) message * rows p) h,
-          )
-
-      pub none-applies : out ≡ p .n * blockCount (block p) message * rows p → splitRefusal p message keys out ≡ 0
-      unfolding splitRefusal firstOf
-      none-applies e =
-          simp (
-            good,
-            le-ltb maxMessage message short,
-            eq-eqb keys (blockCount (block p) message * p .z * rows p) enough,
-            eq-eqb out (p .n * blockCount (block p) message * rows p) e,
-          )
-
--- ---- the output
-
-module _ (p : Parameters) (message keys out : List ℕ) where
-  -- on a refusal nothing is written
-  pub unwritten : 0 < splitRefusal p (length message) (length keys) (length out) → out ≡ splitOutput p message keys out
-  unfolding splitOutput
-  unwritten h = rw (ne-eqb (splitRefusal p (length message) (length keys) (length out)) 0 (λ s. omega arith))
-
-  pub refuses : (q : ℕ) → refused q ≡ splitAnswer p (length message) (length keys) (length out)
-      → (refused q ≡ splitAnswer p (length message) (length keys) (length out)) × (out ≡ splitOutput p message keys out)
-  unfolding splitAnswer
-  refuses q e = (e, unwritten (answered-some _ q _ [] e .1))
-
-  -- else the shares are
-  module _ (none : splitRefusal p (length message) (length keys) (length out) ≡ 0) where
-    pub written : splitOutput p message keys out ≡ shares p message keys
-    unfolding splitOutput
-    written = simp none
-
-    pub answered : splitAnswer p (length message) (length keys) (length out) ≡ accepted (blockCount (block p) (length message) * rows p ∷ [])
-    unfolding splitAnswer
-    answered = answer-none _ _ none
-
--- ---- for whoever calls
-
--- what holds where no refusal applies
+-- what then holds
 pub record Dealt (p : Parameters) (message keys out : ℕ) : Type 0 where
   pub good : Accepted p
   pub short : message ≤ maxMessage
@@ -102,15 +37,31 @@ pub split-dealt : (p : Parameters) (message keys out : ℕ) → splitRefusal p m
 unfolding splitRefusal
 split-dealt p message keys out e =
     let scheme = first-none _ _ e in
-    let five = first-none _ _ (scheme .1) in
-    let eight = first-none _ _ (five .1) in
-    let ten = first-none _ _ (eight .1) in
+    let five = first-when _ _ _ (scheme .1) in
+    let eight = first-when _ _ _ (five .1) in
+    let ten = first-when _ _ _ (eight .1) in
     record {
       good = scheme .0;
-      short = ltb-false maxMessage message (when-none 5 _ (omega arith) (five .0));
-      enough = eqb-true _ _ (not-false _ (when-none 8 _ (omega arith) (eight .0)));
-      room = eqb-true _ _ (not-false _ (when-none 10 _ (omega arith) (ten .0)));
+      short = ltb-false maxMessage message (five .0);
+      enough = eqb-true _ _ (not-false _ (eight .0));
+      room = eqb-true _ _ (not-false _ (ten .0));
     }
+
+pub none-applies : (p : Parameters) → Accepted p → (message keys out : ℕ) → message ≤ maxMessage → keys ≡ blockCount (block p) message * p .z * rows p
+    → out ≡ p .n * blockCount (block p) message * rows p → splitRefusal p message keys out ≡ 0
+unfolding splitRefusal
+none-applies p good message keys out short enough room = numbered (pass good (pass-within 5 short (pass-same 8 enough (pass-same 10 room done))))
+
+module _ (p : Parameters) (message keys out : List ℕ) (none : splitRefusal p (length message) (length keys) (length out) ≡ 0) where
+  pub written : splitOutput p message keys out ≡ shares p message keys
+  unfolding splitOutput
+  written = simp none
+
+  pub answered : splitAnswer p (length message) (length keys) (length out) ≡ accepted (blockCount (block p) (length message) * rows p ∷ [])
+  unfolding splitAnswer
+  answered = answer-none _ _ none
+
+-- ---- lengths
 
 -- the shares have n × N × b bytes
 pub shares-long : (p : Parameters) (message keys : List ℕ) → length (shares p message keys) ≡ p .n * blockCount (block p) (length message) * rows p
@@ -122,11 +73,11 @@ shares-long p message keys =
 
 -- the output never changes its length
 pub output-long : (p : Parameters) (message keys out : List ℕ) → length (splitOutput p message keys out) ≡ length out
+unfolding splitOutput
 output-long p message keys out =
     ⊎-elim
-    (λ (e : splitRefusal p (length message) (length keys) (length out) ≡ 0).
-    rw (written p message keys out e) (shares-long p message keys ∙ sym (split-dealt p _ _ _ e .room)))
-    (λ (h : 0 < splitRefusal p (length message) (length keys) (length out)). ap length (sym (unwritten p message keys out h)))
+    (λ (e : splitRefusal p (length message) (length keys) (length out) ≡ 0). rw e (shares-long p message keys ∙ sym (split-dealt p _ _ _ e .room)))
+    (λ (h : 0 < splitRefusal p (length message) (length keys) (length out)). ap length (sym (kept (shares p message keys) h)))
     (eq-zero-or-pos (splitRefusal p (length message) (length keys) (length out)))
 
 -- ---- the code's numbers: s is what the check answers, N the blocks of the message, and w one of n and z

@@ -12,16 +12,18 @@ use Rattle.lists.specs.Each.{Each}
 use Rattle.lists.proofs.Each.{each-getD, each-of}
 use Rattle.lists.proofs.Numbers.{other-factor, factors-differ}
 use Rattle.scheme.specs.declared.Scheme.{Scheme}
+use Rattle.scheme.specs.declared.SchemeAnswer.{SchemeAnswer}
 use Rattle.scheme.specs.declared.SchemeAnswer.the-variants.{Accepted}
 use Rattle.scheme.specs.Limits.{maxBlock}
-use Rattle.scheme.specs.Outcome.{Outcome, schemeOutcome}
+use Rattle.scheme.specs.Outcome.{schemeOutcome}
 use Rattle.scheme.specs.BlockLength.{blockLength, Least}
 use Rattle.scheme.specs.Check.{last, partiesRefused, thresholdsRefused, countsRefused, refusal, rowsOfCount, rowsOfBlock, checked}
 use Rattle.scheme.specs.Facts as facts
 use Rattle.scheme.specs.Facts.{Sizes, SchemeIs}
 use Rattle.scheme.proofs.BlockLength.{block-least, least-unique}
 use Rattle.scheme.proofs.Counts.{Fit, counts-fit, fit-low, fit-high}
-use Rattle.scheme.proofs.Refusals.{sizes, passed, refusal-0, refusal-4, checked-accepted, refused-number}
+use Rattle.scheme.proofs.Refusals.{sizes, passed, refusal-0, refusal-4}
+use Rattle.scheme.proofs.Answers.{answered-none}
 
 -- every count is above z, as k is positive
 above : (n r z : ℕ) (ds : List ℕ) → Sizes n r z → Fit n r ds → Each (λ d. z < d) ds
@@ -98,11 +100,14 @@ accepted n r z ds e =
       fits = exact n r z ds s f m least;
     }
 
-pub accepted-scheme : (s : Scheme) (n r z : ℕ) (ds : List ℕ) → schemeOutcome (Accepted s) ≡ checked n r z ds → SchemeIs s n r z ds
-accepted-scheme s n r z ds e =
-    let q : refusal n r z ds ≡ 0 = sym (refused-number n r z ds) ∙ ap (λ (o : Outcome). o .number) (sym e) in
-    let v = ap (λ (o : Outcome). o .values) (e ∙ checked-accepted n r z ds q) in
-    record { passed = q; n-is = cc v; r-is = cc v; z-is = cc v; block-is = cc v; rows-is = cc v }
+-- for whoever takes the check's answer a apart
+pub accepted-scheme : {a : SchemeAnswer} {s : Scheme} {n r z : ℕ} {ds : List ℕ} → schemeOutcome a ≡ checked n r z ds → a ≡ Accepted s
+    → SchemeIs s n r z ds
+unfolding checked
+accepted-scheme e told =
+    let none = answered-none _ _ _ (sym (ap schemeOutcome told) ∙ e) in
+    let v = none .1 in
+    record { passed = none .0; n-is = cc v; r-is = cc v; z-is = cc v; block-is = cc v; rows-is = cc v }
 
 -- s is also the scheme of its own fields
 pub scheme-own : (s : Scheme) (n r z : ℕ) (ds : List ℕ) → SchemeIs s n r z ds → SchemeIs s (s .n) (s .r) (s .z) ds

@@ -14,12 +14,12 @@ use Rattle.scheme.specs.declared.Scheme.{Scheme}
 use Rattle.scheme.specs.declared.SchemeAnswer.{SchemeAnswer}
 use Rattle.scheme.specs.declared.SchemeAnswer.the-variants.{Accepted, Refused}
 use Rattle.scheme.specs.Limits.{maxParties, maxBlock, defaultN, defaultR, defaultZ, defaultCounts}
-use Rattle.scheme.specs.Outcome.{Outcome, schemeOutcome, when, firstOf}
+use Rattle.scheme.specs.Outcome.{schemeOutcome, when, firstOf}
 use Rattle.scheme.specs.BlockLength.{blockLength}
 use Rattle.scheme.specs.Check.{partiesRefused, thresholdsRefused, countsRefused, blockRefused, refusal, rowsOfCount, rowsOfBlock, checked}
 use Rattle.scheme.specs.Sheet.{decimal, line, countLine, countLines, schemeText, sheetText, wordBlock, wordRows, wordRefused, maxInput}
 use Rattle.scheme.specs.Writing.{maxText}
-use Rattle.scheme.proofs.Refusals.{checked-accepted, refused-number}
+use Rattle.scheme.proofs.Answers.{scheme-told}
 use Rattle.scheme.proofs.Accepted.{accepted, accepted-scheme}
 use Rattle.scheme.proofs.Decimal.{decimal-short}
 
@@ -75,24 +75,21 @@ module _ (n r z : ℕ) (ds : List ℕ) where
   module _ (a : SchemeAnswer) (is : schemeOutcome a ≡ checked n r z ds) where
     pub block-most : (s : Scheme) → a ≡ Accepted s → s .block ≤ maxBlock
     block-most s e =
-        let i = accepted-scheme s n r z ds (ap schemeOutcome (sym e) ∙ is) in
+        let i = accepted-scheme is e in
         omega (arith, accepted n r z ds (i .passed) .limit, i .block-is)
 
     pub accepted-text : (s : Scheme) → a ≡ Accepted s
         → schemeText n r z ds ≡ line (wordBlock ∷ decimal (s .block) ∷ wordRows ∷ decimal (s .rows) ∷ []) ++ countLines (s .block) z ds
     accepted-text s e =
-        let i = accepted-scheme s n r z ds (ap schemeOutcome (sym e) ∙ is) in
+        let i = accepted-scheme is e in
         rw (i .block-is, i .rows-is) (text-accepted (i .passed))
 
     pub refused-text : (q number : ℕ) → a ≡ Refused q → number ≡ schemeOutcome a .number
         → schemeText n r z ds ≡ line (wordRefused ∷ decimal number ∷ [])
     refused-text q number e number-is =
-        let same : number ≡ refusal n r z ds = number-is ∙ ap (λ (o : Outcome). o .number) is ∙ refused-number n r z ds in
-        -- an accepted scheme has values, and a refusal has none
-        let no : refusal n r z ds ≡ 0 → ⊥ = λ passed.
-        let values = ap (λ (o : Outcome). length (o .values)) (ap schemeOutcome (sym e) ∙ is ∙ checked-accepted n r z ds passed) in
-        omega arith in
-        rw same (text-refused no)
+        let told = scheme-told n r z ds is e in
+        let same : number ≡ refusal n r z ds = number-is ∙ ap (λ (x : SchemeAnswer). schemeOutcome x .number) e ∙ sym (told .0) in
+        rw same (text-refused (λ passed. omega (arith, told .1)))
 
   pub scheme-text-short : length (schemeText n r z ds) ≤ maxText
   unfolding line rowsOfBlock

@@ -1,22 +1,20 @@
 -- Demand 2, the way there and back: what was split comes back.
 -- Assumes nothing.
 use mathlib.Core.Path.{_≡_, sym, ap, _∙_}
-use mathlib.Core.Bool.{true}
+use mathlib.Core.Bool.{true, not}
 use mathlib.Core.List.{List, [], _∷_}
 use Prim.Native.Nat.{ℕ, _*_, _≤_, _<_}
 use native.Mathlib.Nat.{mul-comm, mul-le-mul-right}
 use lib.ListN.{length, getD, take}
 use lib.Seq.{length-take-le}
-use borrow.Author.Tests.{eq-eqb, le-ltb}
 use Rattle.lists.specs.Each.{Each, Distinct, Byte, occurs}
 use Rattle.lists.specs.Table.{joined}
 use Rattle.lists.proofs.Each.{each-getD}
 use Rattle.lists.proofs.Joined.{length-joined, joined-same, piece-joined}
 use Rattle.scheme.specs.Limits.{maxMessage}
 use Rattle.scheme.specs.Outcome as outcome
-use Rattle.scheme.specs.Outcome.{firstOf}
 use Rattle.scheme.specs.Check.{blockCount, rowsOfCount}
-use Rattle.scheme.proofs.Laws.{accepted, answer-none, readers-pass, parties-distinct}
+use Rattle.scheme.proofs.Laws.{accepted, readers-pass, parties-distinct, done, pass, pass-within, pass-false, pass-same, numbered, answer-none}
 use Rattle.family.specs.Message.{padded}
 use Rattle.family.specs.Family.{shareOfBlocks}
 use Rattle.family.specs.Exactness as family
@@ -62,8 +60,9 @@ module _ (p : Parameters) (A : Accepted p) (message keys : List ℕ) (bytes : Ea
 
   -- the prefix that is handed back of a share
   prefix-handed : (share : List ℕ) → length share ≡ rows p * N → prefixOf p (length message) (length parties) share ≡ take (rowsSent * N) share
-  unfolding prefixOf prefixRefusal prefixLength firstOf
-  prefix-handed share long = simp (A, le-ltb maxMessage (length message) short, counted, eq-eqb (length share) (N * rows p) (long ∙ mul-comm (rows p) N))
+  unfolding prefixOf prefixRefusal prefixLength
+  prefix-handed share long =
+      rw (numbered (pass A (pass-within 5 short (pass-false 6 (ap not counted) (pass-same 9 (long ∙ mul-comm (rows p) N) done)))))
 
   handed-is : handed p (length message) parties (splitOutput p message keys before) ≡ joined (length parties) prefixAt
   unfolding family.prefixOf
@@ -93,10 +92,11 @@ module _ (p : Parameters) (A : Accepted p) (message keys : List ℕ) (bytes : Ea
       (λ a h. sym (piece-joined {A = ℕ} (length parties) (rowsSent * N) prefixAt (λ a _. prefix-long a) a h)))
 
 pub round-trip : (p : Parameters) → RoundTrip p
-unfolding reconstructOutput reconstructAnswer reconstructRefusal firstOf
+unfolding reconstructOutput reconstructAnswer reconstructRefusal
 round-trip p A message keys bytes short K parties counted rising before out room fits =
     let right = parties-distinct (p .n) parties rising in
     let long = handed-long p A message keys bytes short K parties counted (right .0) (right .1) before room in
+    let passed = readers-pass (p .n) parties rising in
     let passes : reconstructRefusal p (length message) parties (length (handed p (length message) parties (splitOutput p message keys before))) (length out) ≡ 0 =
-    simp (A, le-ltb maxMessage (length message) short, counted, readers-pass (p .n) parties rising, eq-eqb _ _ long, eq-eqb _ _ fits) in
+    numbered (pass A (pass-within 5 short (pass-false 6 (ap not counted) (pass-false 7 passed (pass-same 9 long (pass-same 10 fits done)))))) in
     (answer-none _ _ passes ∙ ap (λ (x : ℕ). outcome.accepted (x ∷ [])) (sym long), simp passes (returned p A message keys bytes short K parties counted (right .0) (right .1) before room))

@@ -1,7 +1,7 @@
 -- Demand 3: the splitter gives nothing away to at most z parties, and how a call ends depends on the scheme and the lengths alone.
 -- Assumes nothing.
 use mathlib.Core.Path.{_≡_, refl, sym, ap, _∙_}
-use mathlib.Core.List.{List, []}
+use mathlib.Core.List.{List}
 use Prim.Native.Nat.{ℕ, _≤_}
 use native.Mathlib.Omega.{arith}
 use lib.ListN.{length}
@@ -10,15 +10,15 @@ use Rattle.lists.proofs.Each.{map-each}
 use Rattle.lists.proofs.Once.{once, once-distinct, once-short, once-each, each-once}
 use Rattle.scheme.specs.Limits.{maxMessage}
 use Rattle.scheme.specs.Outcome.{Outcome, outcome}
-use Rattle.scheme.proofs.Laws.{default-accepted, answered-none, answered-some}
+use Rattle.scheme.proofs.Laws.{default-accepted, told-accepted, told-refused, kept}
 use Rattle.staircase.specs.Parameters.{Parameters, Party, defaultParameters, blocksOf, outputBytes}
 use Rattle.staircase.specs.Shares.{shares, partOf, KeyString}
 use Rattle.staircase.proofs.Hidden.{message-hidden}
 use Rattle.staircase.proofs.WholeBlocks.{keys-number}
 use Rattle.scheme.specs.declared.Answer.{Answer}
 use Rattle.scheme.specs.declared.Answer.the-variants.{Accepted as Answered, Refused}
-use Rattle.dealer.specs.Split.{splitRefusal, splitAnswer}
-use Rattle.dealer.proofs.Laws.{none-applies, written as written-out, unwritten, output-long}
+use Rattle.dealer.specs.Split.{splitRefusal, splitAnswer, splitOutput}
+use Rattle.dealer.proofs.Laws.{none-applies, written as written-out, output-long}
 use Rattle.sharing.specs.Secrecy.{Secret, Secrecy, Call, written, Wrote, OutcomeFromLengths}
 
 -- ---- secrecy
@@ -67,12 +67,11 @@ same-answer (Refused x) (Refused y) e = ap Refused (ap (λ (o : Outcome). o .num
 -- what a call wrote
 pub call-wrote : (p : Parameters) (message keys before : List ℕ) (answer : Answer) (after : List ℕ) → Call p message keys before answer after
     → Wrote p message keys before answer after
-unfolding splitAnswer
+unfolding splitAnswer splitOutput
 call-wrote p message keys before (Answered bytes) after C =
-    let none = answered-none _ _ _ (C .answered) .0 in
+    let none = told-accepted (Answered bytes) _ _ (C .answered) refl .0 in
     (C .wrote ∙ written-out p message keys before none, ap length (C .wrote) ∙ output-long p message keys before)
-call-wrote p message keys before (Refused number) after C =
-    C .wrote ∙ sym (unwritten p message keys before (answered-some _ number _ [] (C .answered) .1))
+call-wrote p message keys before (Refused number) after C = C .wrote ∙ sym (kept _ (told-refused (Refused number) _ _ (C .answered) refl))
 
 -- so a call that gave this answer wrote as many bytes as the lengths say
 written-long : (p : Parameters) (message keys before : List ℕ) (answer : Answer) (after : List ℕ) → Wrote p message keys before answer after

@@ -1,13 +1,13 @@
--- `dealer::split` meets its contract: each way out has its law in proofs/Dealing.antt, and the products fit since the scheme is
--- accepted and the message is not too long.
+-- `dealer::split` meets its contract: each way out is a way through the refusals, and the products fit since the scheme is accepted and the
+-- message is not too long.
 -- Assumes nothing.
-use mathlib.Core.Path.{sym, ap, _∙_}
+use mathlib.Core.Path.{sym, _∙_}
 use native.Mathlib.Omega.{arith}
-use Rattle.scheme.specs.Outcome.{schemeOutcome}
 use Rattle.scheme.specs.Facts.{SchemeIs}
-use Rattle.scheme.proofs.Laws.{accepted-scheme, scheme-own}
+use Rattle.scheme.proofs.Laws.{accepted-scheme, scheme-own, refuses, pass, stop-scheme, stop-over, pass-within, stop-other, pass-same}
 use Rattle.staircase.proofs.Sizes.{blocks-few, share-small}
-use Rattle.dealer.proofs.Dealing.{scheme-refuses, message-long, other-keys, other-output, refuses, keys-length, output-length, output-parts, keys-part, keys-whole, output-part, output-whole, deals}
+use Rattle.dealer.specs.Split.{splitRefusal, splitAnswer, splitOutput}
+use Rattle.dealer.proofs.Dealing.{keys-length, output-length, output-parts, keys-part, keys-whole, output-part, output-whole, deals}
 use borrow.Author.Needs.{needs}
 use Rattle.dealer.proofs.split.Statement.{statement}
 use Rattle.dealer.proofs.split.Tie as tie
@@ -16,9 +16,10 @@ use Rattle.dealer.proofs.split.Tie as tie
 scheme-of : (c : tie.After-known-told)
     → let a = c .before .before .before .before .before .before .before .before .args in
     SchemeIs (c .before .answer .given .0 .0) (a .n) (a .r) (a .z) (a .counts .now)
-scheme-of c = accepted-scheme _ _ _ _ _ (sym (ap schemeOutcome (c .before .answer .given .1)) ∙ c .before .before .before .check .ensures)
+scheme-of c = accepted-scheme (c .before .before .before .check .ensures) (c .before .answer .given .1)
 
 pub split-spec : {M : Type 1} → statement M
+unfolding splitRefusal splitAnswer splitOutput
 split-spec =
     tie.close
     (tie.spec
@@ -26,11 +27,8 @@ split-spec =
     (λ c. search needs)
     (λ c. search needs)
     (λ c κs. search needs)
-    (λ c.
-    let k = c .before .before .before in
-    let told = c .before .enum-told .given .1 in
-    refuses _ _ _ _ _ (scheme-refuses _ _ _ _ _ _ _ (k .check .ensures) told (c .refusal .ensures)))
-    (λ c. refuses _ _ _ _ _ (message-long _ (scheme-of (c .before) .passed) _ _ _ (c .if1 .taken)))
+    (λ c. refuses _ (stop-scheme _ _ _ _ (c .before .before .before .check .ensures) (c .before .enum-told .given .1) (c .refusal .ensures)))
+    (λ c. refuses _ (pass (scheme-of (c .before) .passed) (stop-over (c .if1 .taken))))
     (λ c κs. search needs)
     (λ c κs. search needs)
     (λ c.
@@ -45,7 +43,7 @@ split-spec =
     let b = c .before .before .before in
     let is = scheme-of (b .before .before) in
     let long = keys-length _ _ is _ _ _ (b .block-count .ensures) (c .before .before .wide .ensures) in
-    refuses _ _ _ _ _ (other-keys _ (is .passed) _ _ _ (b .before .if1 .left) (λ e. omega arith)))
+    refuses _ (pass (is .passed) (pass-within 5 (b .before .if1 .left) (stop-other (λ e. c .if2 .taken (e ∙ sym long))))))
     (λ c κs. search needs)
     (λ c.
     let b = c .before .before .before .before in
@@ -61,7 +59,7 @@ split-spec =
     let is = scheme-of (b .before .before) in
     let enough = k .if2 .left ∙ keys-length _ _ is _ _ _ (b .block-count .ensures) (k .before .before .wide .ensures) in
     let long = output-length _ _ is _ _ _ (b .block-count .ensures) (c .before .before .wide2 .ensures) in
-    refuses _ _ _ _ _ (other-output _ (is .passed) _ _ _ (b .before .if1 .left) enough (λ e. omega arith)))
+    refuses _ (pass (is .passed) (pass-within 5 (b .before .if1 .left) (pass-same 8 enough (stop-other (λ e. c .if3 .taken (e ∙ sym long)))))))
     (λ c κs.
     let o = c .before in
     let b = o .before .before .before .before .before .before in
@@ -83,4 +81,5 @@ split-spec =
     let is = scheme-of (b .before .before) in
     let enough = k .if2 .left ∙ keys-length _ _ is _ _ _ (b .block-count .ensures) (k .before .before .wide .ensures) in
     let room = o .if3 .left ∙ output-length _ _ is _ _ _ (b .block-count .ensures) (o .before .before .wide2 .ensures) in
-    deals _ _ is _ _ _ _ (b .block-count .ensures) (b .before .if1 .left) enough room _ (f .fill-shares .ensures)))
+    let out = b .before .before .before .before .before .before .before .before .before .before .args .out .now in
+    deals _ _ is _ _ out _ (b .block-count .ensures) (b .before .if1 .left) enough room _ (f .fill-shares .ensures)))

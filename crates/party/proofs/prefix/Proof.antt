@@ -17,7 +17,7 @@ prefix-spec =
     (λ c. search needs)
     (λ c. search needs)
     (λ c. sym (length-take-le _ (c .before .before .before .before .before .before .args .share .now) (search needs)))
-    (λ c. (part-none _ _ _ _ _ (c .before .before .before .prefix-length .ensures) _ (c .before .enum-told .given .1), refl))
+    (λ c. (part-none _ _ _ _ _ (c .before .before .before .prefix-length .ensures) (c .before .enum-told .given .1), refl))
     (λ c.
     let a = c .before .before in
     let call = a .before .before in

@@ -1,14 +1,15 @@
--- `party::prefix_length` meets its contract: each way out has its law in proofs/Handing.antt, and the two products fit since the
--- scheme is accepted and the message is not too long.
+-- `party::prefix_length` meets its contract: each way out is a way through the refusals, and the two products fit since the scheme is accepted
+-- and the message is not too long.
 -- Assumes nothing.
-use mathlib.Core.Path.{sym, ap, _∙_}
+use mathlib.Core.Path.{_≡_, sym, ap, _∙_}
+use mathlib.Core.Bool.{false, not}
 use native.Mathlib.Omega.{arith}
 use borrow.Author.Needs.{needs}
-use borrow.Author.Tests.{not-true, not-false}
-use Rattle.scheme.specs.Outcome.{schemeOutcome}
+use Rattle.lists.specs.Each.{occurs}
 use Rattle.scheme.specs.Facts.{SchemeIs}
-use Rattle.scheme.proofs.Laws.{accepted-scheme}
-use Rattle.party.proofs.Handing.{scheme-refuses, message-long, no-count, other-length, handed, prefix-length-is}
+use Rattle.scheme.proofs.Laws.{accepted-scheme, answers, done, pass, stop-scheme, stop-over, pass-within, stop-true, pass-false, stop-other, pass-same}
+use Rattle.party.specs.Prefix.{prefixRefusal, prefixAnswer}
+use Rattle.party.proofs.Handing.{prefix-length-is}
 use Rattle.staircase.proofs.Sizes.{share-length, share-small, prefix-small}
 use Rattle.party.proofs.prefix_length.Statement.{statement}
 use Rattle.party.proofs.prefix_length.Tie as tie
@@ -17,9 +18,16 @@ use Rattle.party.proofs.prefix_length.Tie as tie
 scheme-of : (c : tie.After-known-told)
     → let a = c .before .before .before .before .before .before .args in
     SchemeIs (c .before .answer .given .0 .0) (a .n) (a .r) (a .z) (a .counts .now)
-scheme-of c = accepted-scheme _ _ _ _ _ (sym (ap schemeOutcome (c .before .answer .given .1)) ∙ c .before .before .before .check .ensures)
+scheme-of c = accepted-scheme (c .before .before .before .check .ensures) (c .before .answer .given .1)
+
+-- past refusal 6
+count-of : (c : tie.Else2)
+    → let a = c .before .before .before .before .before .before .before .before .before .args in
+    not (occurs (a .d) (a .counts .now)) ≡ false
+count-of c = ap not (sym (c .before .is-count .ensures)) ∙ c .if2 .left
 
 pub prefix-length-spec : {M : Type 1} → statement M
+unfolding prefixAnswer prefixRefusal
 prefix-length-spec =
     tie.close
     (tie.spec
@@ -27,37 +35,34 @@ prefix-length-spec =
     (λ c. search needs)
     (λ c. search needs)
     (λ c κs. search needs)
-    (λ c.
-    let k = c .before .before .before in
-    let told = c .before .enum-told .given .1 in
-    scheme-refuses _ _ _ _ _ _ _ (k .check .ensures) told (c .refusal .ensures))
-    (λ c. message-long _ (scheme-of (c .before) .passed) _ _ _ (c .if1 .taken))
+    (λ c. answers (stop-scheme _ _ _ _ (c .before .before .before .check .ensures) (c .before .enum-told .given .1) (c .refusal .ensures)))
+    (λ c. answers (pass (scheme-of (c .before) .passed) (stop-over (c .if1 .taken))))
     (λ c κs. search needs)
     (λ c.
     let k = c .before in
-    no-count _ (scheme-of (k .before .before) .passed) _ _ _ (k .before .if1 .left) (sym (k .is-count .ensures) ∙ not-true (k .is-count .result) (c .if2 .taken)))
+    let e = k .before in
+    let no = ap not (sym (k .is-count .ensures)) ∙ c .if2 .taken in
+    answers (pass (scheme-of (e .before) .passed) (pass-within 5 (e .if1 .left) (stop-true no))))
     (λ c κs. search needs)
     (λ c.
     let b = c .before in
-    let k = b .before .before .before in
-    omega (arith, share-small _ _ (scheme-of (k .before)) _ _ (b .block-count .ensures) (k .if1 .left)))
+    let e = b .before .before .before in
+    omega (arith, share-small _ _ (scheme-of (e .before)) _ _ (b .block-count .ensures) (e .if1 .left)))
     (λ c.
     let b = c .before .before in
-    let k = b .before .before in
-    let s = scheme-of (k .before .before) in
-    let count = sym (k .is-count .ensures) ∙ not-false (k .is-count .result) (b .before .if2 .left) in
-    let long = share-length _ _ s _ _ (b .block-count .ensures) in
-    other-length _ (s .passed) _ _ _ (k .before .if1 .left) count (λ e. omega arith))
+    let e = b .before .before .before in
+    let s = scheme-of (e .before) in
+    let bytes = share-length _ _ s _ _ (b .block-count .ensures) in
+    answers (pass (s .passed) (pass-within 5 (e .if1 .left) (pass-false 6 (count-of (b .before)) (stop-other (λ q. c .if3 .taken (q ∙ sym bytes)))))))
     (λ c κs. search needs)
     (λ c.
     let b = c .before .before .before in
-    let k = b .before .before .before in
-    omega (arith, prefix-small _ _ (scheme-of (k .before)) _ _ (b .block-count .ensures) (k .if1 .left) _ _ _ (c .rows-of-count .ensures)))
+    let e = b .before .before .before in
+    omega (arith, prefix-small _ _ (scheme-of (e .before)) _ _ (b .block-count .ensures) (e .if1 .left) _ _ _ (c .rows-of-count .ensures)))
     (λ c.
     let b = c .before .before .before in
-    let k = b .before .before in
-    let s = scheme-of (k .before .before) in
-    let count = sym (k .is-count .ensures) ∙ not-false (k .is-count .result) (b .before .if2 .left) in
-    let long = share-length _ _ s _ _ (b .block-count .ensures) in
-    let is = prefix-length-is _ _ s _ _ _ _ (b .block-count .ensures) (c .rows-of-count .ensures) in
-    rw is (handed _ (s .passed) _ _ _ (k .before .if1 .left) count (omega arith))))
+    let e = b .before .before .before in
+    let s = scheme-of (e .before) in
+    let bytes = c .before .if3 .left ∙ share-length _ _ s _ _ (b .block-count .ensures) in
+    rw (prefix-length-is _ _ s _ _ _ _ (b .block-count .ensures) (c .rows-of-count .ensures))
+    (answers (pass (s .passed) (pass-within 5 (e .if1 .left) (pass-false 6 (count-of (b .before)) (pass-same 9 bytes done)))))))

@@ -1,19 +1,19 @@
--- `reader::opening::reconstruct` meets its contract: each way out has its law in proofs/OpenerAnswers.antt, and the products fit since the scheme
--- is accepted, the message is not too long and the parties are at most 16.
+-- `reader::opening::reconstruct` meets its contract: each way out is a way through the refusals, and the products fit since the scheme is
+-- accepted, the message is not too long and the parties are at most 16.
 -- Assumes nothing.
 use mathlib.Core.Path.{_≡_, sym, ap, _∙_}
-use mathlib.Core.Bool.{true, false}
+use mathlib.Core.Bool.{true, false, not}
 use native.Mathlib.Omega.{arith}
 use lib.ListN.{length}
 use borrow.Author.Needs.{needs}
-use borrow.Author.Tests.{not-true, not-false}
+use borrow.Author.Tests.{not-false}
 use Rattle.lists.specs.Each.{occurs}
-use Rattle.scheme.specs.Outcome.{schemeOutcome}
 use Rattle.scheme.specs.Facts.{SchemeIs}
-use Rattle.scheme.proofs.Laws.{accepted-scheme, scheme-own}
+use Rattle.scheme.proofs.Laws.{accepted-scheme, scheme-own, refuses, numbered, done, pass, stop-scheme, stop-over, pass-within, stop-true, pass-false, stop-other, pass-same}
 use Rattle.scheme.specs.Readers.{readersRefused}
 use Rattle.staircase.proofs.Sizes.{count-most}
-use Rattle.reader.proofs.OpenerAnswers.{scheme-refuses, message-long, no-count, not-rising, other-prefixes, other-output, none-applies, refuses, bytes-are, bytes-parts, rows-small, bytes-small, opens}
+use Rattle.reader.specs.Reconstruct.{reconstructRefusal, reconstructAnswer, reconstructOutput}
+use Rattle.reader.proofs.OpenerAnswers.{bytes-are, bytes-parts, rows-small, bytes-small, opens}
 use Rattle.reader.proofs.opening.reconstruct.Statement.{statement}
 use Rattle.reader.proofs.opening.reconstruct.Tie as tie
 
@@ -21,7 +21,7 @@ use Rattle.reader.proofs.opening.reconstruct.Tie as tie
 scheme-of : (c : tie.After-known-told)
     → let a = c .before .before .before .before .before .before .before .before .args in
     SchemeIs (c .before .answer .given .0 .0) (a .n) (a .r) (a .z) (a .counts .now)
-scheme-of c = accepted-scheme _ _ _ _ _ (sym (ap schemeOutcome (c .before .answer .given .1)) ∙ c .before .before .before .check .ensures)
+scheme-of c = accepted-scheme (c .before .before .before .check .ensures) (c .before .answer .given .1)
 
 -- past refusal 6
 count-of : (c : tie.Else2)
@@ -36,6 +36,7 @@ passed-of : (c : tie.Else3)
 passed-of c = sym (c .before .readers-refused .ensures) ∙ c .if3 .left
 
 pub reconstruct-spec : {M : Type 1} → statement M
+unfolding reconstructRefusal reconstructAnswer reconstructOutput
 reconstruct-spec =
     tie.close
     (tie.spec
@@ -43,23 +44,20 @@ reconstruct-spec =
     (λ c. search needs)
     (λ c. search needs)
     (λ c κs. search needs)
-    (λ c.
-    let k = c .before .before .before in
-    let told = c .before .enum-told .given .1 in
-    refuses _ _ _ _ _ _ (scheme-refuses _ _ _ _ _ _ _ _ (k .check .ensures) told (c .refusal .ensures)))
-    (λ c. refuses _ _ _ _ _ _ (message-long _ (scheme-of (c .before) .passed) _ _ _ _ (c .if1 .taken)))
+    (λ c. refuses _ (stop-scheme _ _ _ _ (c .before .before .before .check .ensures) (c .before .enum-told .given .1) (c .refusal .ensures)))
+    (λ c. refuses _ (pass (scheme-of (c .before) .passed) (stop-over (c .if1 .taken))))
     (λ c κs. search needs)
     (λ c.
     let k = c .before in
-    refuses _ _ _ _ _ _
-    (no-count _ (scheme-of (k .before .before) .passed) _ _ _ _ (k .before .if1 .left)
-    (sym (k .is-count .ensures) ∙ not-true (k .is-count .result) (c .if2 .taken))))
+    let e = k .before in
+    let no = ap not (sym (k .is-count .ensures)) ∙ c .if2 .taken in
+    refuses _ (pass (scheme-of (e .before) .passed) (pass-within 5 (e .if1 .left) (stop-true no))))
     (λ c κs. search needs)
     (λ c.
     let r = c .before in
     let e = r .before .before .before in
-    refuses _ _ _ _ _ _
-    (not-rising _ (scheme-of (e .before) .passed) _ _ _ _ (e .if1 .left) (count-of (r .before)) (sym (r .readers-refused .ensures) ∙ c .if3 .taken)))
+    let bad = sym (r .readers-refused .ensures) ∙ c .if3 .taken in
+    refuses _ (pass (scheme-of (e .before) .passed) (pass-within 5 (e .if1 .left) (pass-false 6 (ap not (count-of (r .before))) (stop-true bad)))))
     (λ c κs. search needs)
     (λ c κs. search needs)
     (λ c.
@@ -80,8 +78,10 @@ reconstruct-spec =
     let e = r .before .before .before in
     let is = scheme-of (e .before) in
     let bytes = bytes-are _ _ is _ _ (b .block-count .ensures) (e .if1 .left) _ _ (c .before .rows-of-count .ensures) in
-    refuses _ _ _ _ _ _
-    (other-prefixes _ (is .passed) _ _ _ _ (e .if1 .left) (count-of (r .before)) (passed-of (b .before)) (λ q. c .if4 .taken (q ∙ sym bytes))))
+    refuses _
+    (pass (is .passed)
+    (pass-within 5 (e .if1 .left)
+    (pass-false 6 (ap not (count-of (r .before))) (pass-false 7 (passed-of (b .before)) (stop-other (λ q. c .if4 .taken (q ∙ sym bytes))))))))
     (λ c.
     let p = c .before in
     let b = p .before .before in
@@ -89,8 +89,10 @@ reconstruct-spec =
     let e = r .before .before .before in
     let is = scheme-of (e .before) in
     let bytes = bytes-are _ _ is _ _ (b .block-count .ensures) (e .if1 .left) _ _ (p .before .rows-of-count .ensures) in
-    refuses _ _ _ _ _ _
-    (other-output _ (is .passed) _ _ _ _ (e .if1 .left) (count-of (r .before)) (passed-of (b .before)) (p .if4 .left ∙ bytes) (c .if5 .taken)))
+    refuses _
+    (pass (is .passed)
+    (pass-within 5 (e .if1 .left)
+    (pass-false 6 (ap not (count-of (r .before))) (pass-false 7 (passed-of (b .before)) (pass-same 9 (p .if4 .left ∙ bytes) (stop-other (c .if5 .taken))))))))
     (λ c κs.
     let o = c .before in
     let p = o .before in
@@ -115,5 +117,11 @@ reconstruct-spec =
     let e = r .before .before .before in
     let is = scheme-of (e .before) in
     let bytes = bytes-are _ _ is _ _ (b .block-count .ensures) (e .if1 .left) _ _ (p .before .rows-of-count .ensures) in
-    let none = none-applies _ (is .passed) _ _ _ _ (e .if1 .left) (count-of (r .before)) (passed-of (b .before)) (p .if4 .left ∙ bytes) (o .if5 .left) in
-    opens _ _ is _ _ _ _ _ (b .block-count .ensures) none (o .if5 .left) _ _ (f .open .ensures .0) (f .open .ensures .1)))
+    let none =
+    numbered
+    (pass (is .passed)
+    (pass-within 5 (e .if1 .left)
+    (pass-false 6 (ap not (count-of (r .before)))
+    (pass-false 7 (passed-of (b .before)) (pass-same 9 (p .if4 .left ∙ bytes) (pass-same 10 (o .if5 .left) done)))))) in
+    let out = e .before .before .before .before .before .before .before .before .before .args .out .now in
+    opens _ _ is _ _ _ out _ (b .block-count .ensures) none (o .if5 .left) _ _ (f .open .ensures .0) (f .open .ensures .1)))
