@@ -3,9 +3,9 @@
 use mathlib.Core.Path.{_≡_, refl, sym, ap, _∙_}
 use mathlib.Core.List.{List}
 use mathlib.Core.Logic.{⊎-elim}
-use Prim.Native.Nat.{ℕ, zero, suc, _+_, _*_, _/_, _%_, _≤_, _<_, zero-le}
-use native.Mathlib.Nat.{add-zero, add-mul, mul-assoc, zero-mul, suc-mul, mul-zero, le-refl, le-step, le-of-eq, lt-of-le-of-lt, eq-or-lt-of-le, le-of-suc-le-suc, not-suc-le-zero, mul-le-mul-right, eq-zero-or-pos}
-use native.Mathlib.Nat.{mul-add-div-right, div-eq-of-lt, mul-add-mod-self-right, mod-eq-of-lt, div-lt-iff-lt-mul, mod-lt, div-add-mod'}
+use Prim.Native.Nat.{ℕ, zero, suc, _+_, _*_, _/_, _%_, _≤_, _<_}
+use native.Mathlib.Nat.{add-mul, mul-assoc, zero-mul, suc-mul, mul-zero, le-refl, le-step, le-of-eq, eq-or-lt-of-le, le-of-suc-le-suc, not-suc-le-zero, mul-le-mul-right, eq-zero-or-pos}
+use native.Mathlib.Nat.{div-lt-iff-lt-mul, mod-lt, div-add-mod'}
 use native.Mathlib.Omega.{arith}
 use lib.Arith.{digits-lt, digits-div, digits-mod}
 use lib.ListN.{length, getD, drop, length-append, length-drop, List·getD-append}

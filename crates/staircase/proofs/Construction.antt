@@ -1,24 +1,22 @@
 -- Demand 2: what the splitter writes is the construction, byte by byte.
 -- Assumes nothing.
-use mathlib.Core.Path.{_≡_, sym, _∙_}
+use mathlib.Core.Path.{sym, _∙_}
 use mathlib.Core.List.{List}
-use Prim.Native.Nat.{ℕ, _+_, _-_, _*_, _<_}
+use Prim.Native.Nat.{ℕ, _-_, _*_}
 use native.Mathlib.Omega.{arith}
 use lib.Dec.{ltb}
-use lib.ListN.{length, getD}
+use lib.ListN.{length}
 use Rattle.lists.specs.Each.{Each, Byte}
-use Rattle.lists.specs.Table.{tabulate}
 use Rattle.lists.proofs.Tests.{cond-ind}
 use Rattle.lists.proofs.Each.{each-at}
-use Rattle.interpolation.specs.Polynomial.{eval}
 use Rattle.interpolation.proofs.Laws.{eval-table}
 use Rattle.scheme.proofs.Laws.{accepted}
 use Rattle.family.specs.Message.{Bytes, padded}
 use Rattle.family.proofs.Message.{padded-bytes}
 use Rattle.family.proofs.Shares.{shares-byte}
-use Rattle.staircase.specs.Parameters.{Parameters, Accepted, Party, block, rows, blocksOf, point}
+use Rattle.staircase.specs.Parameters.{Parameters, block, rows, blocksOf, point}
 use Rattle.staircase.specs.Coefficients.{countOf, coefficientAt}
-use Rattle.staircase.specs.Shares.{staircase, shares, KeyString}
+use Rattle.staircase.specs.Shares.{staircase, shares}
 use Rattle.staircase.specs.Construction.{Construction}
 use Rattle.staircase.proofs.Columns.{part-at}
 use Rattle.staircase.proofs.WholeBlocks.{keys-number}
