@@ -16,34 +16,34 @@ use Rattle.lists.proofs.Piece.{length-piece, getD-piece, joined-is}
 use Rattle.scheme.specs.Check.{blockCount}
 use Rattle.family.specs.Message.{Bytes, padded}
 use Rattle.family.specs.Family.{Family, shareOfBlocks}
-use Rattle.family.specs.Exactness.{Has, BlockExact, prefixOf, Gives, readings, openedBlocks, Exact}
+use Rattle.family.specs.Exactness.{Has, BlockExact, firstRows, Gives, readings, openedBlocks, Exact}
 use Rattle.family.proofs.Message.{padded-bytes, unpadded, block-bytes, joined-bytes}
 use Rattle.family.proofs.Shares.{length-share, share-byte}
 
 -- ---- the bytes of prefixes
 
 module _ (F : Family) (parties : List ℕ) (rows : ℕ) (few : rows ≤ F .rows) (N : ℕ) where
-  pub length-prefix : (blocks keys : List ℕ) (s : ℕ) → length (prefixOf F parties rows N blocks keys s) ≡ rows * N
-  unfolding prefixOf
+  pub length-prefix : (blocks keys : List ℕ) (s : ℕ) → length (firstRows F rows N blocks keys s) ≡ rows * N
+  unfolding firstRows
   length-prefix blocks keys s =
       length-take-le (rows * N) (shareOfBlocks F N blocks keys s) (rw (length-share F N blocks keys s) (mul-le-mul-right N few))
 
   -- row j of block t
   pub prefix-byte : (blocks keys : List ℕ) (s j t : ℕ) → j < rows → t < N
-      → getD (prefixOf F parties rows N blocks keys s) (j * N + t) 0 ≡ getD (F .column (piece (F .block) t blocks) (piece (F .keys) t keys) s) j 0
-  unfolding prefixOf
+      → getD (firstRows F rows N blocks keys s) (j * N + t) 0 ≡ getD (F .column (piece (F .block) t blocks) (piece (F .keys) t keys) s) j 0
+  unfolding firstRows
   prefix-byte blocks keys s j t hj ht =
       getD-take (rows * N) (shareOfBlocks F N blocks keys s) (j * N + t) 0 (below-product j rows t N hj ht)
       ∙ share-byte F N blocks keys s j t (omega arith) ht
 
   -- the same byte of the party at place a, where the prefixes are given
   pub reading : (prefixes : List ℕ) (a j t : ℕ) → j < rows → t < N
-      → getD (piece (rows * N) a prefixes) (j * N + t) 0 ≡ readings F parties rows N prefixes t j a
+      → getD (piece (rows * N) a prefixes) (j * N + t) 0 ≡ readings rows N prefixes t j a
   unfolding readings
   reading prefixes a j t hj ht = getD-piece (rows * N) a prefixes (j * N + t) 0 (below-product j rows t N hj ht)
 
   pub reading-byte : (prefixes : List ℕ) → Bytes (length parties * (rows * N)) prefixes → (t : ℕ) → t < N
-      → (j a : ℕ) → j < rows → a < length parties → Byte (readings F parties rows N prefixes t j a)
+      → (j a : ℕ) → j < rows → a < length parties → Byte (readings rows N prefixes t j a)
   unfolding readings
   reading-byte prefixes h t ht j a hj ha =
       each-getD Byte prefixes (a * (rows * N) + (j * N + t)) 0
@@ -52,7 +52,7 @@ module _ (F : Family) (parties : List ℕ) (rows : ℕ) (few : rows ≤ F .rows)
   module _ (prefixes blocks keys : List ℕ) where
     -- block t has its readings
     abbrev pub HasAt : ℕ → Type 0
-    HasAt t = Has F parties rows (readings F parties rows N prefixes t) (piece (F .block) t blocks) (piece (F .keys) t keys)
+    HasAt t = Has F parties rows (readings rows N prefixes t) (piece (F .block) t blocks) (piece (F .keys) t keys)
 
     pub gives-has : Gives F parties rows N blocks keys prefixes → (t : ℕ) → t < N → HasAt t
     gives-has G t ht j a hj ha =
@@ -63,7 +63,7 @@ module _ (F : Family) (parties : List ℕ) (rows : ℕ) (few : rows ≤ F .rows)
     pub has-gives : length prefixes ≡ length parties * (rows * N) → ((t : ℕ) → t < N → HasAt t) → Gives F parties rows N blocks keys prefixes
     has-gives e H a ha =
         let s : ℕ = getD parties a 0 in
-        let p : List ℕ = prefixOf F parties rows N blocks keys s in
+        let p : List ℕ = firstRows F rows N blocks keys s in
         let l : length p ≡ rows * N = length-prefix blocks keys s in
         ext-getD 0 p (piece (rows * N) a prefixes) (l ∙ sym (length-piece (rows * N) a (length parties) prefixes (le-of-eq (sym e)) ha))
         (λ i b.
@@ -79,13 +79,13 @@ module _ (F : Family) (parties : List ℕ) (rows : ℕ) (few : rows ≤ F .rows)
 module _ (F : Family) (parties : List ℕ) (rows known : ℕ) (opened openedKeys : (ℕ → ℕ → ℕ) → List ℕ) (few : rows ≤ F .rows)
     (E : BlockExact F parties rows known opened openedKeys) (N : ℕ) where
   abbrev held : List ℕ → ℕ → ℕ → ℕ → ℕ
-  held = readings F parties rows N
+  held = readings rows N
 
   abbrev keysFor : List ℕ → List ℕ
   keysFor prefixes = joined N (λ t. openedKeys (held prefixes t))
 
   opened-has : (prefixes : List ℕ) → Bytes (length parties * (rows * N)) prefixes → (t : ℕ) → t < N
-      → HasAt F parties rows few N prefixes (openedBlocks F parties rows opened N prefixes) (keysFor prefixes) t
+      → HasAt F parties rows few N prefixes (openedBlocks rows opened N prefixes) (keysFor prefixes) t
   unfolding openedBlocks
   opened-has prefixes h t ht j a hj ha =
       ap₂ (λ (b k : List ℕ). getD (F .column b k (getD parties a 0)) j 0)
@@ -114,7 +114,7 @@ module _ (F : Family) (parties : List ℕ) (rows known : ℕ) (opened openedKeys
             λ prefixes h. (
               keysFor prefixes,
               joined-bytes (F .keys) N (λ t. openedKeys (held prefixes t)) (λ t _. E .keys-bytes (held prefixes t)),
-              has-gives F parties rows few N prefixes (openedBlocks F parties rows opened N prefixes) (keysFor prefixes) (h .0) (opened-has prefixes h),
+              has-gives F parties rows few N prefixes (openedBlocks rows opened N prefixes) (keysFor prefixes) (h .0) (opened-has prefixes h),
             );
         unique =
             λ prefixes blocks keys B K G.
@@ -130,7 +130,7 @@ pub message-back : (F : Family) (parties : List ℕ) (rows known : ℕ) (opened 
     → (message keys prefixes : List ℕ) → Each Byte message
     → let N : ℕ = blockCount (F .block) (length message) in
     Exact F parties rows known opened N → Bytes (N * F .keys) keys → Gives F parties rows N (padded (F .block) message) keys prefixes
-    → take (length message) (openedBlocks F parties rows opened N prefixes) ≡ message
+    → take (length message) (openedBlocks rows opened N prefixes) ≡ message
 message-back F parties rows known opened positive message keys prefixes h X K G =
     ap (take (length message)) (sym (X .unique prefixes (padded (F .block) message) keys (padded-bytes (F .block) message positive h) K G))
     ∙ unpadded (F .block) message

@@ -9,6 +9,18 @@ use Rattle.lists.specs.Table.{joined, piece}
 use Rattle.family.specs.Message.{Bytes}
 use Rattle.family.specs.Family.{Family, shareOfBlocks}
 
+-- what the prefixes of so many rows, one after another, hold of block t of N: the byte of row j in the prefix at place a
+unfoldable pub readings : ℕ → ℕ → List ℕ → ℕ → ℕ → ℕ → ℕ
+readings rows N prefixes t j a = getD prefixes (a * (rows * N) + (j * N + t)) 0
+
+-- all N blocks, each from what the prefixes hold of it
+unfoldable pub openedBlocks : ℕ → ((ℕ → ℕ → ℕ) → List ℕ) → ℕ → List ℕ → List ℕ
+openedBlocks rows opened N prefixes = joined N (λ t. opened (readings rows N prefixes t))
+
+-- the first rows of party s's share of N blocks: its prefix
+unfoldable pub firstRows : Family → ℕ → ℕ → List ℕ → List ℕ → ℕ → List ℕ
+firstRows F rows N blocks keys s = take (rows * N) (shareOfBlocks F N blocks keys s)
+
 module _ (F : Family) (parties : List ℕ) (rows : ℕ) where
   -- in the first rows of a block the party at place a has v j a in row j
   abbrev pub Has : (ℕ → ℕ → ℕ) → List ℕ → List ℕ → Type 0
@@ -24,30 +36,18 @@ module _ (F : Family) (parties : List ℕ) (rows : ℕ) where
     pub keys-unique : (v : ℕ → ℕ → ℕ) (block keys : List ℕ) → Bytes (F .block) block → Bytes (F .keys) keys → Has v block keys
         → take known keys ≡ take known (openedKeys v)
 
-  -- the prefix of party s's share of N blocks: its first rows
-  unfoldable pub prefixOf : ℕ → List ℕ → List ℕ → ℕ → List ℕ
-  prefixOf N blocks keys s = take (rows * N) (shareOfBlocks F N blocks keys s)
-
   -- the prefixes of the parties' shares are these bytes, one after another in the list's order
   abbrev pub Gives : ℕ → List ℕ → List ℕ → List ℕ → Type 0
-  Gives N blocks keys prefixes = (a : ℕ) → a < length parties → prefixOf N blocks keys (getD parties a 0) ≡ piece (rows * N) a prefixes
-
-  -- what the prefixes hold of block t of N
-  unfoldable pub readings : ℕ → List ℕ → ℕ → ℕ → ℕ → ℕ
-  readings N prefixes t j a = getD prefixes (a * (rows * N) + (j * N + t)) 0
-
-  -- all N blocks, each from what the prefixes hold of it
-  unfoldable pub openedBlocks : ((ℕ → ℕ → ℕ) → List ℕ) → ℕ → List ℕ → List ℕ
-  openedBlocks opened N prefixes = joined N (λ t. opened (readings N prefixes t))
+  Gives N blocks keys prefixes = (a : ℕ) → a < length parties → firstRows F rows N blocks keys (getD parties a 0) ≡ piece (rows * N) a prefixes
 
   -- N blocks: any bytes of the right number are the prefixes of the opened blocks under some keys, and of no other blocks, whatever their padding;
   -- of each block the first `known` keys are determined too
   pub record Exact (known : ℕ) (opened : (ℕ → ℕ → ℕ) → List ℕ) (N : ℕ) : Type 0 where
-    pub bytes : (prefixes : List ℕ) → Bytes (N * F .block) (openedBlocks opened N prefixes)
+    pub bytes : (prefixes : List ℕ) → Bytes (N * F .block) (openedBlocks rows opened N prefixes)
     pub exists : (prefixes : List ℕ) → Bytes (length parties * (rows * N)) prefixes
-        → (keys : List ℕ) × Bytes (N * F .keys) keys × Gives N (openedBlocks opened N prefixes) keys prefixes
+        → (keys : List ℕ) × Bytes (N * F .keys) keys × Gives N (openedBlocks rows opened N prefixes) keys prefixes
     pub unique : (prefixes blocks keys : List ℕ) → Bytes (N * F .block) blocks → Bytes (N * F .keys) keys → Gives N blocks keys prefixes
-        → blocks ≡ openedBlocks opened N prefixes
+        → blocks ≡ openedBlocks rows opened N prefixes
     pub keys-unique : (prefixes blocks blocks′ keys keys′ : List ℕ) → Bytes (N * F .block) blocks → Bytes (N * F .block) blocks′
         → Bytes (N * F .keys) keys → Bytes (N * F .keys) keys′ → Gives N blocks keys prefixes → Gives N blocks′ keys′ prefixes
         → (t : ℕ) → t < N → take known (piece (F .keys) t keys) ≡ take known (piece (F .keys) t keys′)

@@ -17,7 +17,7 @@ use Rattle.scheme.specs.Check.{blockCount, rowsOfCount}
 use Rattle.scheme.proofs.Laws.{accepted, readers-pass, parties-distinct, done, pass, pass-within, pass-false, pass-same, numbered, answer-none}
 use Rattle.family.specs.Message.{padded}
 use Rattle.family.specs.Family.{shareOfBlocks}
-use Rattle.family.specs.Exactness as family
+use Rattle.family.specs.Exactness.{firstRows}
 use Rattle.family.proofs.Shares.{length-share}
 use Rattle.family.proofs.Exactness.{message-back}
 use Rattle.staircase.specs.Parameters.{Parameters, Accepted, Party, block, rows, blocksOf, outputBytes}
@@ -42,7 +42,7 @@ module _ (p : Parameters) (A : Accepted p) (message keys : List ℕ) (bytes : Ea
   rowsSent = rowsOfCount (block p) (p .z) (length parties)
 
   abbrev prefixAt : ℕ → List ℕ
-  prefixAt a = family.prefixOf (staircase p) parties rowsSent N (padded (block p) message) keys (getD parties a 0)
+  prefixAt a = firstRows (staircase p) rowsSent N (padded (block p) message) keys (getD parties a 0)
 
   rows-few : rowsSent ≤ rows p
   rows-few = rows-within p A (length parties) counted
@@ -65,13 +65,13 @@ module _ (p : Parameters) (A : Accepted p) (message keys : List ℕ) (bytes : Ea
       rw (numbered (pass A (pass-within 5 short (pass-false 6 (ap not counted) (pass-same 9 (long ∙ mul-comm (rows p) N) done)))))
 
   handed-is : handed p (length message) parties (splitOutput p message keys before) ≡ joined (length parties) prefixAt
-  unfolding family.prefixOf
+  unfolding firstRows
   handed-is =
       joined-same {A = ℕ} (length parties) _ _
       (λ a h. ap (prefixOf p (length message) (length parties)) (share-written a h) ∙ prefix-handed _ (share-long (getD parties a 0)))
 
   prefix-long : (a : ℕ) → length (prefixAt a) ≡ rowsSent * N
-  unfolding family.prefixOf
+  unfolding firstRows
   prefix-long a =
       length-take-le (rowsSent * N) _ (rw (share-long (getD parties a 0)) (mul-le-mul-right N rows-few))
 

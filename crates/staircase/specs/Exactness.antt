@@ -21,7 +21,7 @@ prefixBytes p d N = d * prefixRows p d * N
 -- the whole blocks that have these prefixes, opened block by block
 unfoldable pub openedString : Parameters → List ℕ → ℕ → List ℕ → List ℕ
 openedString p parties N prefixes =
-    openedBlocks (staircase p) parties (prefixRows p (length parties))
+    openedBlocks (prefixRows p (length parties))
     (openedBlock (block p) (p .z) (p .counts) (map (point p) parties)) N prefixes
 
 -- these N whole blocks under these keys give the parties the prefixes: at each place of the list, the first P × N bytes of that party's share
