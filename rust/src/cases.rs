@@ -100,7 +100,7 @@ pub const BAD_COUNTS: [fn(&mut Scheme); 10] = [
     |s| s.counts = (0..=255).rev().collect(),
 ];
 
-/// Lengths around the ends of blocks and of runs of 64 blocks.
+/// Lengths around the ends of blocks and of batches of 64 blocks.
 pub fn length(random: &mut Random, m: usize) -> usize {
     let blocks = [0, 1, 2, 3, 63, 64, 65, 130][random.below(8)];
     (blocks * m + random.below(3)).saturating_sub(1).min(MAX_MESSAGE)

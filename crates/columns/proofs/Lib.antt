@@ -1,4 +1,4 @@
 mod Gathered
 mod FirstColumns
-mod Runs
+mod Batches
 pub mod Laws

@@ -73,8 +73,8 @@ pub fn row_values(columns: &[[u8; LANES]; SIDE], d: usize, point: u8) -> [u8; LA
     value.values
 }
 
-// The blocks of the next run, of those that are left: at most 64.
-pub fn run_of(left: usize) -> usize
+// The blocks of the next batch, of those that are left: at most 64.
+pub fn batch_of(left: usize) -> usize
     ensures { λ many. ⌜ many ≡ min left lanes ⌝ }
 {
     smaller(left, LANES)

@@ -1,5 +1,5 @@
-mod Strips
+mod Filled
 mod Put
-mod Runs
+mod Batches
 mod Dealing
 pub mod Laws

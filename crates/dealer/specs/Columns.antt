@@ -16,7 +16,7 @@ column m b z ds message keys t j e =
     cond (ltb e z) (strided keys ((t * b + j) * z + e) (b * z)) (strided message (t * m + origin m z ds j e) m)
 
 -- o became w: in each of the first `parts` of the parts of m bytes, the bytes from q on, `many` of them, are by the rule g, and nothing else changed
-pub record Strip (m q many : ℕ) (g : ℕ → ℕ → ℕ) (parts : ℕ) (o w : List ℕ) : Type 0 where
+pub record Filled (m q many : ℕ) (g : ℕ → ℕ → ℕ) (parts : ℕ) (o w : List ℕ) : Type 0 where
   pub long : length w ≡ length o
   pub inside : (a k : ℕ) → a < parts → k < many → getD w (a * m + (q + k)) 0 ≡ g a k
   pub outside : (a i : ℕ) → i < m → (parts ≤ a) ⊎ ((i < q) ⊎ (q + many ≤ i)) → getD w (a * m + i) 0 ≡ getD o (a * m + i) 0

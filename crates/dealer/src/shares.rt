@@ -1,4 +1,4 @@
-// The splitter's outer loops: row after row, in each row the blocks in runs of at most 64, and of each run
+// The splitter's outer loops: row after row, in each row the blocks in batches of at most 64, and of each batch
 // the row's coefficients, gathered once for all parties. Where the coefficients of a row stand is found once
 // a row. No branch and no place depends on a byte of the message or of the keys.
 ghost use mathlib.Core.Path.{_≡_};
@@ -87,8 +87,8 @@ pub(crate) fn fill_shares(
         let d = rows::count_of(s.block, s.z, counts, j);
         let places = rows::row_origins(s.block, s.z, counts, j);
         let mut t = 0;
-        'run: while t < blocks {
-            let many = columns::run_of(blocks - t);
+        'batch: while t < blocks {
+            let many = columns::batch_of(blocks - t);
             let columns = row_columns(s, &places, message, keys, t, j, d);
             fill_parties(&columns, d, &points[..n], share, q, many, out);
             q += many;

@@ -69,7 +69,7 @@ module _ (work places : List ℕ) (d t m : ℕ) where
 
 -- ---- the parties' bytes
 
--- a run of bytes that is loaded
+-- bytes that are loaded
 pub loaded : (prefixes : List ℕ) (at many : ℕ) (r : List ℕ) → many ≤ lanes → r ≡ strided (take many (drop at prefixes)) 0 1
     → (k : ℕ) → k < many → getD r k 0 ≡ getD prefixes (at + k) 0
 loaded prefixes at many r h e k l =

@@ -1,4 +1,4 @@
--- One row of one block, and of a run of blocks: from the parties' bytes and the known coefficients to the others. A value without the part of degree
+-- One row of one block, and of a batch of blocks: from the parties' bytes and the known coefficients to the others. A value without the part of degree
 -- d and up is that of the first d coefficients, which the basis gives back from the values at d points.
 -- Assumes nothing.
 use mathlib.Core.Path.{_≡_, sym, ap, ap₂, _∙_}
@@ -39,7 +39,7 @@ solved d points w I n most cs b l e h =
         ∙ table-at points a e (omega arith) (omega arith)
         ∙ weight-within points a e (omega arith) (omega arith) (true-distinct points (I .distinct))
 
--- ---- a run of one row
+-- ---- a batch of one row
 
 module _ (z d top high m blocks prefix q t many : ℕ) (points prefixes places work B : List ℕ) (w columns rests : List (List ℕ))
     (I : BasisOf points w) (R : RowOf z d top m blocks prefix q points prefixes places B) (H : Holds t (t + many) m d top places B work)
@@ -88,8 +88,8 @@ module _ (z d top high m blocks prefix q t many : ℕ) (points prefixes places w
       G .is a k ha hk
       ∙ ap₂ _⊕_ (ap (λ (x : ℕ). getD prefixes x 0) o ∙ R .sent (t + k) a (omega arith) ha) (known-value (getD points a 0) k hk)
 
-  pub run-step : (e k : ℕ) → z ≤ e → e < d → k < many → getD (combined rests w e d) k 0 ≡ getD B (t * m + getD places e 0 + k * m) 0
-  run-step e k ze ed hk =
+  pub batch-step : (e k : ℕ) → z ≤ e → e < d → k < many → getD (combined rests w e d) k 0 ≡ getD B (t * m + getD places e 0 + k * m) 0
+  batch-step e k ze ed hk =
       combined-at rests w e d k (omega arith)
       ∙ sumTo-same d _ _ (λ a h. ap (_⊗_ (getD (getD w a []) e 0)) (rest-entry k a hk h))
       ∙ solved d points w I n (omega arith) (R .row (t + k)) (R .bytes (t + k) (omega arith)) (rw (R .long (t + k) (omega arith)) dt) e ed

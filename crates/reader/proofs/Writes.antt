@@ -1,4 +1,4 @@
--- Writes of bytes of B into the work buffer: one after another, a column, the degrees of a run of blocks, and runs one after another.
+-- Writes of bytes of B into the work buffer: one after another, a column, the degrees of a batch of blocks, and batches one after another.
 -- What is written is a byte of B, so a place that has B's byte keeps it, and nothing about distinct places is needed.
 -- Assumes nothing.
 use mathlib.Core.Path.{_≡_, refl, sym, ap, ap₂, _∙_}
@@ -54,7 +54,7 @@ pub scattered-more : (column : List ℕ) (at step many n place : ℕ) (w w′ : 
     → Scattered column at step many n w w′ → Scattered column at step many (n + 1) w (set w′ place (getD column n 0))
 scattered-more column at step many n place w w′ l e h S B c = wrote-more place (getD column n 0) (S B c) e h (c n l)
 
--- ---- the degrees of a run of blocks, and runs one after another
+-- ---- the degrees of a batch of blocks, and batches one after another
 
 pub solved-none : (s n m z : ℕ) (places B w : List ℕ) → Solved s n m z z places B w w
 solved-none s n m z places B w = record { long = refl; still = λ k h. h; new = λ t e a b p q. absurd (omega arith) }
@@ -79,9 +79,9 @@ solved-degree {t} {many} {m} {z} {e} {places} {B} {w} {w′} {w″} S W =
           (lt-or-le f e);
     }
 
-pub solved-run : {s n m z d : ℕ} {places B w w′ w″ : List ℕ} (k : ℕ)
+pub solved-batch : {s n m z d : ℕ} {places B w w′ w″ : List ℕ} (k : ℕ)
     → Solved s n m z d places B w w′ → Solved n k m z d places B w′ w″ → Solved s k m z d places B w w″
-solved-run {s} {n} {m} {z} {d} {places} {B} {w} {w′} {w″} k S T =
+solved-batch {s} {n} {m} {z} {d} {places} {B} {w} {w′} {w″} k S T =
     record {
       long = T .long ∙ S .long;
       still = λ i h. T .still i (S .still i h);

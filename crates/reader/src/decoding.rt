@@ -136,7 +136,7 @@ struct Sizes {
 
 // One row of the blocks from t on, `many` of them: the coefficients from degree d up are known, and
 // those of degrees z to d - 1 are found and written to their places.
-fn decode_run(
+fn decode_batch(
     sizes: Sizes,
     prefixes: &[u8],
     points: &[u8],
@@ -194,8 +194,8 @@ fn decode_row(
     let blocks = sizes.blocks;
     let mut t = 0;
     while t < blocks {
-        let many = columns::run_of(blocks - t);
-        decode_run(
+        let many = columns::batch_of(blocks - t);
+        decode_batch(
             sizes,
             prefixes,
             points,

@@ -1,4 +1,4 @@
--- `dealer::parties::fill_parties` meets its contract. The invariant: the strip is written in the first a shares. The measure is what is left of them.
+-- `dealer::parties::fill_parties` meets its contract. The invariant: the first a shares are filled. The measure is what is left of them.
 -- Assumes nothing.
 use mathlib.Core.Path.{_≡_, refl, _∙_}
 use Prim.Native.Nat.{_+_, _-_, _*_, _≤_}
@@ -9,15 +9,15 @@ use Rattle.lists.proofs.Joined.{row-room}
 use Rattle.lists.proofs.Parts.{part-length}
 use Rattle.interpolation.specs.RowValue.{valuesOf}
 use Rattle.columns.proofs.Laws.{values-take}
-use Rattle.dealer.specs.Columns.{Strip}
+use Rattle.dealer.specs.Columns.{Filled}
 use Rattle.dealer.proofs.Put.{put-length, put-entry}
-use Rattle.dealer.proofs.Strips.{strip-none, strip-more}
+use Rattle.dealer.proofs.Filled.{filled-none, filled-more}
 use Rattle.dealer.proofs.parties.fill_parties.Statement.{statement}
 use Rattle.dealer.proofs.parties.fill_parties.Tie as tie
 
 abbrev Inv-loop : tie.InvT-loop
 Inv-loop columns d points share q many out₀ a₀ out a =
-    (a ≤ length points) × Strip share q many (λ s k. getD (valuesOf (getD points s 0) (take d columns)) k 0) a out₀ out
+    (a ≤ length points) × Filled share q many (λ s k. getD (valuesOf (getD points s 0) (take d columns)) k 0) a out₀ out
 
 abbrev μ-loop : tie.MeasureT-loop
 μ-loop columns d points share q many out₀ a₀ out a = length points - a
@@ -57,7 +57,7 @@ loop-again c =
     let values : v .row-values .result ≡ valuesOf x coefficients =
     v .row-values .ensures ∙ values-take (a .d) (a .columns .now) x (s .pre .1) (s .pre .0) in (
       omega arith,
-      strip-more (length (a .points .now)) y (l .inv .1) (i .loop-test .taken) (s .pre .3) (s .pre .4) refl
+      filled-more (length (a .points .now)) y (l .inv .1) (i .loop-test .taken) (s .pre .3) (s .pre .4) refl
           (put-length y (v .row-values .result) part (a .many) x coefficients (p .put .ensures) lent values (s .pre .2))
           (put-entry y (v .row-values .result) part (a .many) x coefficients (p .put .ensures) lent values),
     )
@@ -66,7 +66,7 @@ pub fill-parties-spec : {M : Type 1} → statement M
 fill-parties-spec =
     tie.close
     (tie.spec Inv-loop μ-loop
-    (λ c. (search needs, strip-none _ _ _ _ _))
+    (λ c. (search needs, filled-none _ _ _ _ _))
     (λ c. search needs)
     (λ c κs. search needs)
     (λ c. omega (arith, room (c .before .before)))

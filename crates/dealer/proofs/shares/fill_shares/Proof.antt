@@ -15,7 +15,7 @@ use Rattle.lists.proofs.Arrays.{any-length}
 use Rattle.lists.proofs.Joined.{row-room}
 use Rattle.lists.proofs.Columns.{Columns, columns-none, columns-all}
 use Rattle.gf256.specs.Lanes.{lanes}
-use Rattle.columns.proofs.Laws.{run-fits}
+use Rattle.columns.proofs.Laws.{batch-fits}
 use Rattle.interpolation.specs.Interpolation.{side}
 use Rattle.scheme.specs.Facts as facts
 use Rattle.scheme.specs.Limits.{maxBlock, maxMessage}
@@ -25,17 +25,17 @@ use Rattle.rows.specs.Sources.{RowOrigins}
 use Rattle.rows.proofs.Scheme.{facts-of, rows-high, row-count-high}
 use Rattle.rows.proofs.Laws.{row-origins}
 use Rattle.rows.proofs.Points.{party-points-long, party-point}
-use Rattle.dealer.proofs.Strips.{strip-columns}
-use Rattle.dealer.proofs.Runs.{run-byte}
+use Rattle.dealer.proofs.Filled.{filled-columns}
+use Rattle.dealer.proofs.Batches.{batch-byte}
 use Rattle.dealer.proofs.shares.fill_shares.Statement.{statement}
 use Rattle.dealer.proofs.shares.fill_shares.Tie as tie
 
-abbrev Inv-run : tie.InvT-run
-Inv-run s counts blocks message keys out₀ n rows share points q₀ j d places t₀ out q t =
+abbrev Inv-batch : tie.InvT-batch
+Inv-batch s counts blocks message keys out₀ n rows share points q₀ j d places t₀ out q t =
     (t ≤ blocks) × (q ≡ j * blocks + t) × Columns (λ a. shareByte (s .block) (s .rows) (s .z) counts message keys blocks (point (parameters (s .n) (s .r) (s .z) counts) (a + 1))) n share q out
 
-abbrev μ-run : tie.MeasureT-run
-μ-run s counts blocks message keys out₀ n rows share points q₀ j d places t₀ out q t = blocks - t
+abbrev μ-batch : tie.MeasureT-batch
+μ-batch s counts blocks message keys out₀ n rows share points q₀ j d places t₀ out q t = blocks - t
 
 abbrev Inv-row : tie.InvT-row
 Inv-row s counts blocks message keys out₀ n rows share points q₀ j₀ out q j =
@@ -44,31 +44,31 @@ Inv-row s counts blocks message keys out₀ n rows share points q₀ j₀ out q 
 abbrev μ-row : tie.MeasureT-row
 μ-row s counts blocks message keys out₀ n rows share points q₀ j₀ out q j = rows - j
 
--- the entry; and of a run, its row, the parties' points and the entry
-abbrev start : tie.After-wide Inv-run μ-run Inv-row μ-row → tie.Start Inv-run μ-run Inv-row μ-row
+-- the entry; and of a batch, its row, the parties' points and the entry
+abbrev start : tie.After-wide Inv-batch μ-batch Inv-row μ-row → tie.Start Inv-batch μ-batch Inv-row μ-row
 start c = c .before .before .before .before .before
 
-abbrev row-of : tie.In-run Inv-run μ-run Inv-row μ-row → tie.In-row Inv-run μ-run Inv-row μ-row
+abbrev row-of : tie.In-batch Inv-batch μ-batch Inv-row μ-row → tie.In-row Inv-batch μ-batch Inv-row μ-row
 row-of c = c .before .before .before .before
 
-abbrev parties-of : tie.In-run Inv-run μ-run Inv-row μ-row → tie.After-party-points Inv-run μ-run Inv-row μ-row
+abbrev parties-of : tie.In-batch Inv-batch μ-batch Inv-row μ-row → tie.After-party-points Inv-batch μ-batch Inv-row μ-row
 parties-of c = row-of c .before .before
 
-abbrev first : tie.In-run Inv-run μ-run Inv-row μ-row → tie.Start Inv-run μ-run Inv-row μ-row
+abbrev first : tie.In-batch Inv-batch μ-batch Inv-row μ-row → tie.Start Inv-batch μ-batch Inv-row μ-row
 first c = start (parties-of c .before)
 
 -- the scheme's parameters
-abbrev scheme : tie.Start Inv-run μ-run Inv-row μ-row → Parameters
+abbrev scheme : tie.Start Inv-batch μ-batch Inv-row μ-row → Parameters
 scheme s = parameters (s .args .s .n) (s .args .s .r) (s .args .s .z) (s .args .counts .now)
 
 -- byte i of share a, counted from 0
-abbrev rule : tie.Start Inv-run μ-run Inv-row μ-row → ℕ → ℕ → ℕ
+abbrev rule : tie.Start Inv-batch μ-batch Inv-row μ-row → ℕ → ℕ → ℕ
 rule s = λ a.
     let x = s .args in
     shareByte (x .s .block) (x .s .rows) (x .s .z) (x .counts .now) (x .message .now) (x .keys .now) (x .blocks) (point (scheme s) (a + 1))
 
 -- the numbers of an accepted scheme
-module _ (s : tie.Start Inv-run μ-run Inv-row μ-row) where
+module _ (s : tie.Start Inv-batch μ-batch Inv-row μ-row) where
   known : facts.Accepted (s .args .s .n) (s .args .s .r) (s .args .s .z) (s .args .counts .now) (s .args .s .block) (s .args .s .rows)
   known = facts-of (s .args .s) (s .args .counts .now) (s .pre .0)
 
@@ -79,7 +79,7 @@ module _ (s : tie.Start Inv-run μ-run Inv-row μ-row) where
   small = mul-le-mul few-rows (s .pre .1)
 
 -- there are at most 16 parties, and the first entries of the array are their points
-module _ (c : tie.After-party-points Inv-run μ-run Inv-row μ-row) where
+module _ (c : tie.After-party-points Inv-batch μ-batch Inv-row μ-row) where
   few-parties : c .before .wide .result ≤ side
   few-parties = omega (arith, c .before .wide .ensures, known (start (c .before)) .sizes)
 
@@ -91,13 +91,13 @@ module _ (c : tie.After-party-points Inv-run μ-run Inv-row μ-row) where
   point-at = party-point (scheme (start (c .before))) _ _ (c .party-points .ensures _) few-parties
 
 -- a row has at most 16 coefficients
-few : (c : tie.After-count-of Inv-run μ-run Inv-row μ-row) → c .count-of .result ≤ side
+few : (c : tie.After-count-of Inv-batch μ-batch Inv-row μ-row) → c .count-of .result ≤ side
 few c =
     let s = start (c .before .before .before .before) in
     omega (arith, c .count-of .ensures, row-count-high (s .args .s) (s .args .counts .now) (s .pre .0) (c .before .before .row .j) (c .before .row-test .taken))
 
 -- the places are the origins of the row's coefficients
-origins-of : (c : tie.After-row-origins Inv-run μ-run Inv-row μ-row)
+origins-of : (c : tie.After-row-origins Inv-batch μ-batch Inv-row μ-row)
     → let a = start (c .before .before .before .before .before) .args in
     RowOrigins (a .s .block) (a .s .z) (a .counts .now) (c .before .before .before .row .j) (c .before .count-of .result) (c .row-origins .result)
 origins-of c =
@@ -105,24 +105,24 @@ origins-of c =
     rw (c .row-origins .ensures, c .before .count-of .ensures)
     (row-origins (s .args .s) (s .args .counts .now) (s .pre .0) (c .before .before .before .row .j) (c .before .before .row-test .taken))
 
--- a run has at most 64 blocks, of those that are left
-run : (c : tie.After-run-of Inv-run μ-run Inv-row μ-row)
-    → let left = first (c .before) .args .blocks - c .before .before .run .t in
-    (c .run-of .result ≤ lanes) × (c .run-of .result ≤ left) × (0 < left → 0 < c .run-of .result)
-run c = run-fits _ _ (c .run-of .ensures)
+-- a batch has at most 64 blocks, of those that are left
+batch : (c : tie.After-batch-of Inv-batch μ-batch Inv-row μ-row)
+    → let left = first (c .before) .args .blocks - c .before .before .batch .t in
+    (c .batch-of .result ≤ lanes) × (c .batch-of .result ≤ left) × (0 < left → 0 < c .batch-of .result)
+batch c = batch-fits _ _ (c .batch-of .ensures)
 
--- a run stays in its row, and so in the share
-within : (c : tie.After-run-of Inv-run μ-run Inv-row μ-row)
-    → c .before .before .run .q + c .run-of .result ≤ first (c .before) .args .s .rows * first (c .before) .args .blocks
+-- a batch stays in its row, and so in the share
+within : (c : tie.After-batch-of Inv-batch μ-batch Inv-row μ-row)
+    → c .before .before .batch .q + c .batch-of .result ≤ first (c .before) .args .s .rows * first (c .before) .args .blocks
 within c =
     let a = first (c .before) .args in
     let r = row-of (c .before) in
-    omega (arith, c .before .before .run .inv, run c .1, row-room (r .before .row .j) (a .s .rows) (a .blocks) (r .row-test .taken))
+    omega (arith, c .before .before .batch .inv, batch c .1, row-room (r .before .row .j) (a .s .rows) (a .blocks) (r .row-test .taken))
 
 pub fill-shares-spec : {M : Type 1} → statement M
 fill-shares-spec =
     tie.close
-    (tie.spec Inv-run μ-run Inv-row μ-row
+    (tie.spec Inv-batch μ-batch Inv-row μ-row
     (λ c κs. search needs)
     (λ c. omega (arith, small (start c)))
     (λ c κs. search needs)
@@ -149,9 +149,9 @@ fill-shares-spec =
     let i = a .before in (
       omega (arith, few (i .before .before .before)),
       any-length (Array (UInt w8) lanes) side (o .row-columns .result) _ (o .row-columns .ok),
-      run a .0,
+      batch a .0,
       omega (arith, within a),
-      i .before .run .inv .2 .long ∙ ap (λ (n : ℕ). n * (first i .args .s .rows * first i .args .blocks)) (sym (points-long (parties-of i))),
+      i .before .batch .inv .2 .long ∙ ap (λ (n : ℕ). n * (first i .args .s .rows * first i .args .blocks)) (sym (points-long (parties-of i))),
     ))
     (λ c.
     let a = c .before .before .before .before .before .before .before .before in
@@ -159,25 +159,25 @@ fill-shares-spec =
     (λ c. search needs)
     (λ c.
     let a = c .before .before .before .before .before .before .before .before in
-    let h : 0 < a .run-of .result = run a .2 (omega arith) in
+    let h : 0 < a .batch-of .result = batch a .2 (omega arith) in
     omega arith)
     (λ c.
     let f = c .before .before in
     let o = f .before .before .before .before in
     let a = o .before .before in
     let i = a .before in
-    let l = i .before .run in
+    let l = i .before .batch in
     let r = row-of i in
     let g = i .before .before in
     let x = first i .args in (
-      omega (arith, run a .1),
+      omega (arith, batch a .1),
       omega (arith, l .inv .1),
-      strip-columns {f = rule (first i)} (l .inv .2) (rw (points-long (parties-of i)) at (f .fill-parties .ensures))
+      filled-columns {f = rule (first i)} (l .inv .2) (rw (points-long (parties-of i)) at (f .fill-parties .ensures))
           (λ b k hb hk.
           rw (point-at (parties-of i) b hb)
-          (run-byte (x .s .block) (x .s .rows) (x .s .z) (x .counts .now) (x .message .now) (x .keys .now) (x .blocks) (g .before .count-of .result)
+          (batch-byte (x .s .block) (x .s .rows) (x .s .z) (x .counts .now) (x .message .now) (x .keys .now) (x .blocks) (g .before .count-of .result)
           (r .before .row .j) (l .t) (l .q) (point (scheme (first i)) (b + 1)) k (take (g .before .count-of .result) (o .row-columns .result))
-          (omega (arith, run a .0)) (omega (arith, run a .1)) (l .inv .1) (g .before .count-of .ensures)
+          (omega (arith, batch a .0)) (omega (arith, batch a .1)) (l .inv .1) (g .before .count-of .ensures)
           (o .row-columns .ensures (x .counts .now) (origins-of g)))),
     ))
     (λ c. search needs)

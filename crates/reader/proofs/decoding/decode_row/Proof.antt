@@ -9,9 +9,9 @@ use native.Mathlib.Omega.{arith}
 use lib.ListN.{length}
 use borrow.Author.Needs.{needs}
 use Rattle.gf256.specs.Lanes.{lanes}
-use Rattle.columns.proofs.Laws.{run-fits}
+use Rattle.columns.proofs.Laws.{batch-fits}
 use Rattle.reader.specs.Decoding.{maxUsize, BasisOf, RowOf, Holds, Solved}
-use Rattle.reader.proofs.Writes.{solved-start, solved-run}
+use Rattle.reader.proofs.Writes.{solved-start, solved-batch}
 use Rattle.reader.proofs.decoding.decode_row.Statement.{statement}
 use Rattle.reader.proofs.decoding.decode_row.Tie as tie
 
@@ -28,29 +28,29 @@ abbrev μ-loop : tie.MeasureT-loop
 abbrev start : tie.After-slice-known Inv-loop μ-loop → tie.Start Inv-loop μ-loop
 start c = c .before .before .before
 
--- a run has at most 64 blocks, of those that are left
-run : (c : tie.After-run-of Inv-loop μ-loop)
+-- a batch has at most 64 blocks, of those that are left
+batch : (c : tie.After-batch-of Inv-loop μ-loop)
     → let left = start (c .before .before .before) .args .sizes .blocks - c .before .before .loop .t in
-    (c .run-of .result ≤ lanes) × (c .run-of .result ≤ left) × (0 < left → 0 < c .run-of .result)
-run c = run-fits _ _ (c .run-of .ensures)
+    (c .batch-of .result ≤ lanes) × (c .batch-of .result ≤ left) × (0 < left → 0 < c .batch-of .result)
+batch c = batch-fits _ _ (c .batch-of .ensures)
 
--- the run that is next: it lies in the blocks, and the count after it is at most that of all blocks
-within : (c : tie.After-run-of Inv-loop μ-loop)
+-- the batch that is next: it lies in the blocks, and the count after it is at most that of all blocks
+within : (c : tie.After-batch-of Inv-loop μ-loop)
     → let s = start (c .before .before .before) in
-    c .before .before .loop .t + c .run-of .result ≤ s .args .sizes .blocks
-within c = omega (arith, run c .1, c .before .before .loop .inv .0)
+    c .before .before .loop .t + c .batch-of .result ≤ s .args .sizes .blocks
+within c = omega (arith, batch c .1, c .before .before .loop .inv .0)
 
-counted : (c : tie.After-run-of Inv-loop μ-loop)
+counted : (c : tie.After-batch-of Inv-loop μ-loop)
     → let s = start (c .before .before .before) in
     let d = s .args .sizes .d in
     let l = c .before .before .loop in
-    (l .used + d * c .run-of .result ≡ s .args .used .now + d * (l .t + c .run-of .result))
-    × (l .used + d * c .run-of .result ≤ maxUsize)
+    (l .used + d * c .batch-of .result ≡ s .args .used .now + d * (l .t + c .batch-of .result))
+    × (l .used + d * c .batch-of .result ≤ maxUsize)
 counted c =
     let s = start (c .before .before .before) in
     let d = s .args .sizes .d in
     let l = c .before .before .loop in
-    let n = c .run-of .result in
+    let n = c .batch-of .result in
     let e : d * (l .t + n) ≡ d * l .t + d * n = mul-add d (l .t) n in
     (omega (arith, l .inv .1), omega (arith, l .inv .1, mul-le-mul-left d (within c), s .pre .2))
 
@@ -78,7 +78,7 @@ decode-row-spec =
         work-long = l .inv .2 ∙ p .work-long;
       },
       s .pre .1,
-      run a .0,
+      batch a .0,
       within a,
       counted a .1,
     ))
@@ -87,20 +87,20 @@ decode-row-spec =
     omega (arith, within a, start (a .before .before .before) .pre .0 .blocks-high))
     (λ c.
     let a = c .before .before .before .before .before .before in
-    let more : 0 < a .run-of .result = run a .2 (omega (arith, a .before .loop-test .taken)) in
+    let more : 0 < a .batch-of .result = batch a .2 (omega (arith, a .before .loop-test .taken)) in
     omega (arith, a .before .loop-test .taken))
     (λ c.
     let o = c .before .before in
     let a = o .before .before .before .before in
     let l = a .before .before .loop in
-    let n = a .run-of .result in (
+    let n = a .batch-of .result in (
       within a,
-      o .decode-run .ensures .0 ∙ counted a .0,
-      o .decode-run .kept .1 .1 .1 .1 .1 .1 .1 .1 .1 .1 .0 ∙ l .inv .2,
+      o .decode-batch .ensures .0 ∙ counted a .0,
+      o .decode-batch .kept .1 .1 .1 .1 .1 .1 .1 .1 .1 .1 .0 ∙ l .inv .2,
       λ B I R H.
           let S = l .inv .3 B I R H in
-          solved-run (l .t + n) S
-          (o .decode-run .ensures .1 B I R (λ u e x y p q. S .still _ (H u e zero-le (omega (arith, within a)) p q))),
+          solved-batch (l .t + n) S
+          (o .decode-batch .ensures .1 B I R (λ u e x y p q. S .still _ (H u e zero-le (omega (arith, within a)) p q))),
     ))
     (λ c. c .before .loop .inv .2)
     (λ c.

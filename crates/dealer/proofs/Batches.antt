@@ -1,4 +1,4 @@
--- From 64 blocks at a time to one: a byte of a column is a coefficient, and a byte of the values of a run's columns is the byte of the share.
+-- From 64 blocks at a time to one: a byte of a column is a coefficient, and a byte of the values of a batch's columns is the byte of the share.
 -- Assumes nothing.
 use mathlib.Core.Path.{_≡_, ap, _∙_}
 use mathlib.Core.Bool.{Bool, true, false, cond}
@@ -38,11 +38,11 @@ module _ (m b z : ℕ) (ds message keys : List ℕ) where
       go false = strided-at message (t * m + origin m z ds j e) m k h ∙ ap (λ (i : ℕ). getD message i 0) (place-on t k (origin m z ds j e) m)
 
   -- row j of block t + k, of N blocks: q is the place of block t of the row, and there are d coefficients
-  pub run-byte : (N d j t q x k : ℕ) (columns : List (List ℕ)) → k < lanes → t + k < N → q ≡ j * N + t → d ≡ countOf m z ds j
+  pub batch-byte : (N d j t q x k : ℕ) (columns : List (List ℕ)) → k < lanes → t + k < N → q ≡ j * N + t → d ≡ countOf m z ds j
       → columns ≡ tabulate d (column m b z ds message keys t j)
       → getD (valuesOf x columns) k 0 ≡ shareByte m b z ds message keys N x (q + k)
   unfolding shareByte
-  run-byte N d j t q x k columns h l q-is d-is are =
+  batch-byte N d j t q x k columns h l q-is d-is are =
       let place : q + k ≡ j * N + (t + k) = omega arith in
       let row : (q + k) / N ≡ j = ap (λ (i : ℕ). i / N) place ∙ row-of j (t + k) N l in
       let block : (q + k) % N ≡ t + k = ap (λ (i : ℕ). i % N) place ∙ place-of j (t + k) N l in

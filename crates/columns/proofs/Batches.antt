@@ -1,4 +1,4 @@
--- The bytes of a column that is gathered, and the number of blocks of a run.
+-- The bytes of a column that is gathered, and the number of blocks of a batch.
 -- Assumes nothing.
 use mathlib.Core.Path.{_≡_}
 use mathlib.Core.List.{List}
@@ -14,7 +14,7 @@ pub strided-at : (bytes : List ℕ) (at step k : ℕ) → k < lanes → getD (st
 unfolding strided
 strided-at bytes at step k h = getD-tabulate lanes _ k 0 h
 
--- a run is no longer than 64 blocks and than what is left, and there is one while any are left
-pub run-fits : (left many : ℕ) → many ≡ min left lanes → (many ≤ lanes) × (many ≤ left) × (0 < left → 0 < many)
-run-fits left many e =
+-- a batch is no longer than 64 blocks and than what is left, and there is one while any are left
+pub batch-fits : (left many : ℕ) → many ≡ min left lanes → (many ≤ lanes) × (many ≤ left) × (0 < left → 0 < many)
+batch-fits left many e =
     (omega (arith, min-le-right left lanes), omega (arith, min-le-left left lanes), (λ h. let one : 1 ≤ min left lanes = le-min h (omega arith) in omega arith))

@@ -1,5 +1,5 @@
--- `reader::decoding::decode_run` meets its contract. The invariant: the degrees from z to e - 1 are solved, for every B that has these columns. That the
--- columns are those of B is `run-step`. The measure is what is left of the degrees.
+-- `reader::decoding::decode_batch` meets its contract. The invariant: the degrees from z to e - 1 are solved, for every B that has these columns. That the
+-- columns are those of B is `batch-step`. The measure is what is left of the degrees.
 -- Assumes nothing.
 use mathlib.Core.Path.{_≡_, refl, ap, _∙_, subst}
 use mathlib.Core.List.{List}
@@ -14,9 +14,9 @@ use Rattle.interpolation.specs.Interpolation.{side}
 use Rattle.scheme.specs.Limits.{maxBlock, maxMessage}
 use Rattle.reader.specs.Decoding.{combined, Solved}
 use Rattle.reader.proofs.Writes.{solved-none, solved-degree}
-use Rattle.reader.proofs.RowStep.{run-step}
-use Rattle.reader.proofs.decoding.decode_run.Statement.{statement}
-use Rattle.reader.proofs.decoding.decode_run.Tie as tie
+use Rattle.reader.proofs.RowStep.{batch-step}
+use Rattle.reader.proofs.decoding.decode_batch.Statement.{statement}
+use Rattle.reader.proofs.decoding.decode_batch.Tie as tie
 
 abbrev Inv-loop : tie.InvT-loop
 Inv-loop prefixes points basis places top q t many used work₀ z d m high rests e₀ work e =
@@ -64,8 +64,8 @@ room c k h =
       c .before .loop .inv .2,
     )
 
-pub decode-run-spec : {M : Type 1} → statement M
-decode-run-spec =
+pub decode-batch-spec : {M : Type 1} → statement M
+decode-batch-spec =
     tie.close
     (tie.spec Inv-loop μ-loop
     (λ c κs.
@@ -129,7 +129,7 @@ decode-run-spec =
       λ B I R H.
           subst (λ (x : ℕ). Solved (a .t) (a .t + a .many) (p .block) (p .z) x (a .places .now) B (a .work .now) (l .work)) whole
           (l .inv .3 B
-          (run-step (p .z) (p .d) (a .top) (k .before .known-count .result) (p .block) (p .blocks) (p .prefix) (a .q) (a .t) (a .many)
+          (batch-step (p .z) (p .d) (a .top) (k .before .known-count .result) (p .block) (p .blocks) (p .prefix) (a .q) (a .t) (a .many)
           (a .points .now) (a .prefixes .now) (a .places .now) (a .work .now) B (a .basis .now) (k .before .before .known .result) (r .rests .result)
           I R H (k .before .before .known .ensures) (r .rests .ensures .1) (k .before .known-count .ensures)
           (s .pre .0 .z-low) (s .pre .0 .points-long) (s .pre .1 .top-low) (s .pre .1 .top-high) (s .pre .2) (s .pre .3))),

@@ -1,4 +1,4 @@
--- One strip is written into each part of a buffer, part after part. And strips side by side fill the columns.
+-- Bytes are written at the same place of each part of a buffer, part after part. And where that is done place after place, the columns are filled.
 -- Assumes nothing.
 use mathlib.Core.Path.{_≡_, refl, ap, _∙_}
 use mathlib.Core.List.{List, _++_}
@@ -11,14 +11,14 @@ use Rattle.lists.proofs.Tests.{lt-or-le}
 use Rattle.lists.proofs.Joined.{row-room}
 use Rattle.lists.proofs.Parts.{back, mid-length, mid-in, mid-outside}
 use Rattle.lists.proofs.Columns.{Columns}
-use Rattle.dealer.specs.Columns.{Strip}
+use Rattle.dealer.specs.Columns.{Filled}
 
-pub strip-none : (m q many : ℕ) (g : ℕ → ℕ → ℕ) (o : List ℕ) → Strip m q many g 0 o o
-strip-none m q many g o = record { long = refl; inside = λ a k h l. absurd (not-suc-le-zero h); outside = λ a i h l. refl }
+pub filled-none : (m q many : ℕ) (g : ℕ → ℕ → ℕ) (o : List ℕ) → Filled m q many g 0 o o
+filled-none m q many g o = record { long = refl; inside = λ a k h l. absurd (not-suc-le-zero h); outside = λ a i h l. refl }
 
 -- in part s, the entries from `at` on came back as y
 module _ {m q many : ℕ} {g : ℕ → ℕ → ℕ} {s : ℕ} {o w : List ℕ} {at : ℕ} (n : ℕ) (y : List ℕ)
-    (S : Strip m q many g s o w) (below : s < n) (fits : q + many ≤ m) (whole : length o ≡ n * m) (place : at ≡ s * m + q) (long : length y ≡ many) where
+    (S : Filled m q many g s o w) (below : s < n) (fits : q + many ≤ m) (whole : length o ≡ n * m) (place : at ≡ s * m + q) (long : length y ≡ many) where
   room : at + many ≤ length w
   room = omega (arith, S .long, row-room s n m below)
 
@@ -42,7 +42,7 @@ module _ {m q many : ℕ} {g : ℕ → ℕ → ℕ} {s : ℕ} {o w : List ℕ} {
       (λ (b : s ≤ a). ⊎-elim (λ (e : s ≡ a). beside a i e h) (λ (b : s < a). inr (later a i b)) (eq-or-lt-of-le b))
       (lt-or-le a s))
 
-  -- what the strip of the parts before says, of the same places
+  -- what is said of the parts before, of the same places
   before : (a i : ℕ) → (s + 1 ≤ a) ⊎ ((i < q) ⊎ (q + many ≤ i)) → (s ≤ a) ⊎ ((i < q) ⊎ (q + many ≤ i))
   before a i = ⊎-elim (λ (h : s + 1 ≤ a). inl (omega arith)) (λ h. inr h)
 
@@ -58,8 +58,8 @@ module _ {m q many : ℕ} {g : ℕ → ℕ → ℕ} {s : ℕ} {o w : List ℕ} {
       rw i (mid-in at many w y room 0 k long l ∙ r k l ∙ ap (λ (x : ℕ). g x k) e))
       (lt-or-le a s)
 
-  pub strip-more : ((k : ℕ) → k < many → getD y k 0 ≡ g s k) → Strip m q many g (s + 1) o (take at w ++ (y ++ drop (at + many - at) (drop at w)))
-  strip-more r =
+  pub filled-more : ((k : ℕ) → k < many → getD y k 0 ≡ g s k) → Filled m q many g (s + 1) o (take at w ++ (y ++ drop (at + many - at) (drop at w)))
+  filled-more r =
       rw add-sub-cancel-left
       (record {
         long = mid-length at many w y room long ∙ S .long;
@@ -68,10 +68,10 @@ module _ {m q many : ℕ} {g : ℕ → ℕ → ℕ} {s : ℕ} {o w : List ℕ} {
             mid-outside at many w y room 0 (a * m + i) long (off a i l h) ∙ S .outside a i l (before a i h);
       })
 
--- a strip after columns that are done makes more columns done
-pub strip-columns : {n m q many : ℕ} {f g : ℕ → ℕ → ℕ} {o w : List ℕ} → Columns f n m q o → Strip m q many g n o w
+-- filled after columns that are done: more columns are done
+pub filled-columns : {n m q many : ℕ} {f g : ℕ → ℕ → ℕ} {o w : List ℕ} → Columns f n m q o → Filled m q many g n o w
     → ((a k : ℕ) → a < n → k < many → g a k ≡ f a (q + k)) → Columns f n m (q + many) w
-strip-columns {n} {m} {q} {many} {f} {g} {o} {w} C S r =
+filled-columns {n} {m} {q} {many} {f} {g} {o} {w} C S r =
     record {
       long = S .long ∙ C .long;
       done = λ a i ha hi l.
