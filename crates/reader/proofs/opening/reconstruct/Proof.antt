@@ -98,12 +98,8 @@ reconstruct-spec =
     let r = b .before .before in
     let e = r .before .before .before in
     let is = scheme-of (e .before) in (
-      scheme-own _ _ _ _ _ is,
-      count-of (r .before),
-      rw (is .n-is) (passed-of (b .before)),
-      omega arith,
-      rw (o .if5 .left) (b .block-count .ensures),
-      p .if4 .left ∙ bytes-parts _ _ is _ _ (b .block-count .ensures) (e .if1 .left) _ _ (p .before .rows-of-count .ensures),
+      (scheme-own _ _ _ _ _ is, count-of (r .before), rw (is .n-is) (passed-of (b .before))),
+      (omega arith, rw (o .if5 .left) (b .block-count .ensures), p .if4 .left ∙ bytes-parts _ _ is _ _ (b .block-count .ensures) (e .if1 .left) _ _ (p .before .rows-of-count .ensures)),
     ))
     (λ c. search needs)
     (λ c.
