@@ -277,6 +277,8 @@ pub(crate) fn decode(
 {
     let sent = scheme::rows_of_count(s.block, s.z, d);
     let mut used = 0;
+    // The place after the group of d, which has the last of the rows sent: the loop over the groups starts
+    // there, downwards.
     let mut g = rows::group_of(s.block, s.z, counts, sent - 1) + 1;
     while 0 < g {
         g -= 1;
