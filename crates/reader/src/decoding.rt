@@ -91,22 +91,35 @@ fn load(prefixes: &[u8], at: usize, end: usize, used: &mut usize) -> [u8; LANES]
     columns::gather(&prefixes[at..end], 0, 1)
 }
 
+// The sizes of what is read: the keys of a row, the number of parties, the block length, the blocks and
+// the bytes of a prefix.
+struct Sizes {
+    z: usize,
+    d: usize,
+    block: usize,
+    blocks: usize,
+    prefix: usize,
+}
+
 // What is left of the bytes of d parties from place q of their prefixes on, `many` of them, when the
 // values of the known columns at their points are taken off.
 fn rests(
+    sizes: Sizes,
     prefixes: &[u8],
     points: &[u8],
     known: &[[u8; LANES]; SIDE],
-    d: usize,
     high: usize,
-    prefix: usize,
     q: usize,
     many: usize,
     used: &mut usize,
 ) -> [[u8; LANES]; SIDE]
-    requires { ⌜ (d ≤ side) × (high ≤ side) × (length (now known) ≡ side) × (many ≤ lanes) × (q + many ≤ prefix) × (length (now prefixes) ≡ d * prefix) × (length (now points) ≡ d) × (now used + d * many ≤ decoding.maxUsize) ⌝ }
-    ensures { λ r. ⌜ (now (used .exit) ≡ now (used .entry) + d * many) × decoding.Rests (now (prefixes .entry)) (now (points .entry)) (now (known .entry)) high prefix q many d r ⌝ }
+    requires input { ⌜ decoding.SizesFit sizes (now points) (now prefixes) × (high ≤ side) × (length (now known) ≡ side) ⌝ }
+    requires batch { ⌜ (many ≤ lanes) × (q + many ≤ sizes .prefix) × (now used + sizes .d * many ≤ decoding.maxUsize) ⌝ }
+    ensures counted { λ _. ⌜ now (used .exit) ≡ now (used .entry) + sizes .d * many ⌝ }
+    ensures rests { λ r. ⌜ decoding.Rests (now (prefixes .entry)) (now (points .entry)) (now (known .entry)) high (sizes .prefix) q many (sizes .d) r ⌝ }
 {
+    let d = sizes.d;
+    let prefix = sizes.prefix;
     let mut rests = [[0u8; LANES]; SIDE];
     let mut a = 0;
     while a < d {
@@ -117,16 +130,6 @@ fn rests(
         a += 1;
     }
     rests
-}
-
-// The sizes of what is read: the keys of a row, the number of parties, the block length, the blocks and
-// the bytes of a prefix.
-struct Sizes {
-    z: usize,
-    d: usize,
-    block: usize,
-    blocks: usize,
-    prefix: usize,
 }
 
 // One row of the blocks from t on, `many` of them: the coefficients from degree d up are known, and
@@ -154,17 +157,7 @@ fn decode_batch(
     let m = sizes.block;
     let known = known(work, places, d, top, t, m);
     let high = known_count(d, top);
-    let rests = rests(
-        prefixes,
-        points,
-        &known,
-        d,
-        high,
-        sizes.prefix,
-        q + t,
-        many,
-        used,
-    );
+    let rests = rests(sizes, prefixes, points, &known, high, q + t, many, used);
     let mut e = z;
     while e < d {
         let column = combine(&rests, basis, d, e);

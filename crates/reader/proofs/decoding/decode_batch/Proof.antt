@@ -78,14 +78,12 @@ decode-batch-spec =
     (λ c κs.
     let s = c .before .before .before .before .before .before .before .before in
     let a = s .args in (
-      s .pre .0 .0 .d-high,
-      few (a .sizes .d) (a .top) (c .before .before .known-count .result) (s .pre .0 .1 .top-high) (c .before .before .known-count .ensures),
-      c .before .before .before .known .ensures .long,
-      s .pre .1 .0,
-      omega (arith, s .pre .1 .1, s .pre .0 .1 .inside),
-      s .pre .0 .0 .prefixes-long,
-      s .pre .0 .0 .points-long,
-      s .pre .1 .2,
+      (
+        s .pre .0 .0,
+        few (a .sizes .d) (a .top) (c .before .before .known-count .result) (s .pre .0 .1 .top-high) (c .before .before .known-count .ensures),
+        c .before .before .before .known .ensures .long,
+      ),
+      (s .pre .1 .0, omega (arith, s .pre .1 .1, s .pre .0 .1 .inside), s .pre .1 .2),
     ))
     (λ c. (le-refl _, start c .pre .0 .0 .z-low, refl, λ B h. solved-none _ _ _ _ _ B _))
     (λ c κs. search needs)
