@@ -1,31 +1,27 @@
 -- The rows of one group, rising: what is found and what is counted before a row and after it.
 -- Assumes nothing.
 use mathlib.Core.Path.{_≡_, sym, ap, _∙_}
-use mathlib.Core.Bool.{true}
 use mathlib.Core.List.{List}
 use mathlib.Core.Logic.{_⊎_, inl, inr, ⊎-elim}
 use Prim.Native.Nat.{ℕ, _+_, _-_, _*_, _≤_, _<_, zero-le}
-use native.Mathlib.Nat.{zero-mul, mul-zero, add-mul, mul-add, mul-le-mul-left, mul-le-mul-right}
+use native.Mathlib.Nat.{le-of-lt, zero-mul, mul-zero, add-mul, mul-add, mul-le-mul-left, mul-le-mul-right}
 use native.Mathlib.Omega.{arith}
 use lib.Dec.{ltb}
 use lib.ListN.{length, getD}
 use borrow.Author.Tests.{le-ltb}
-use Rattle.lists.specs.Each.{Each, Byte, occurs}
+use Rattle.lists.specs.Each.{Each, Byte}
 use Rattle.lists.specs.Table.{tabulate}
 use Rattle.lists.proofs.Each.{each-at, each-tabulate}
 use Rattle.lists.proofs.Joined.{row-room}
 use Rattle.lists.proofs.Table.{length-tabulate, getD-tabulate}
 use Rattle.lists.proofs.Tests.{lt-or-le, cond-ind}
 use Rattle.scheme.specs.declared.Scheme.{Scheme}
-use Rattle.scheme.specs.Facts as facts
-use Rattle.scheme.specs.Facts.{SchemeIs}
-use Rattle.scheme.specs.Check.{rowsOfCount}
 use Rattle.staircase.specs.Coefficients.{groupOf, countOf, origin, coefficientAt}
 use Rattle.staircase.proofs.Groups.{rows-most, group-is}
 use Rattle.rows.specs.Sources.{RowOrigins}
-use Rattle.reader.specs.Decoding.{Place, BasisOf, RowOf, Holds, Solved, Solves, Sent, rowsBefore, Found}
-use Rattle.rows.proofs.Scheme.{facts-of}
-use Rattle.reader.proofs.LaterRows.{before-some, before-next, order-of, degree-within, group-most}
+use Rattle.reader.specs.declared.decoding.Sizes.{Sizes}
+use Rattle.reader.specs.Decoding.{SizesFit, RowFits, RowOf, Holds, Solved, Solves, rowsOf, rowsBefore, Input, Sent, EachSent, Found}
+use Rattle.reader.proofs.LaterRows.{before-some, before-next, A, order-of, degree-within, count-high, group-most}
 
 -- the coefficients of blocks and keys that are bytes
 coefficient-byte : (m b z : ℕ) (ds B K : List ℕ) (t j e : ℕ) → Each Byte B → Each Byte K → Byte (coefficientAt m b z ds B K t j e)
@@ -35,32 +31,22 @@ coefficient-byte m b z ds B K t j e hB hK =
     (λ _. each-at Byte K ((t * b + j) * z + e) 0 (omega arith) hK)
     (λ _. each-at Byte B (t * m + origin m z ds j e) 0 (omega arith) hB)
 
--- the buffer has B's bytes at all origins of the rows from `from` to j - 1, and of those from `end` to P - 1
-abbrev Took : ℕ → ℕ → List ℕ → ℕ → ℕ → ℕ → ℕ → ℕ → List ℕ → List ℕ → Type 0
-Took m z ds P blocks from j end B w =
-    (i e t : ℕ) → ((from ≤ i) × (i < j)) ⊎ (end ≤ i) → i < P → t < blocks → z ≤ e → e < countOf m z ds i
-    → getD w (t * m + origin m z ds i e) 0 ≡ getD B (t * m + origin m z ds i e) 0
-
--- the same of the rows of group g before j and those of the later groups
-abbrev pub TookRows : Scheme → List ℕ → ℕ → ℕ → ℕ → ℕ → List ℕ → List ℕ → Type 0
-TookRows s ds d blocks g j B w =
-    Took (s .block) (s .z) ds (rowsOfCount (s .block) (s .z) d) blocks (rowsBefore (s .block) (s .z) ds g) j (rowsBefore (s .block) (s .z) ds (g + 1)) B w
+-- the buffer has B's bytes at all origins of the rows of group g before j, and of those of the later groups, as far as d's
+abbrev pub Took : Scheme → List ℕ → ℕ → ℕ → ℕ → ℕ → List ℕ → List ℕ → Type 0
+Took s ds d blocks g j B w =
+    (i e t : ℕ) → ((rowsBefore s ds g ≤ i) × (i < j)) ⊎ (rowsBefore s ds (g + 1) ≤ i) → i < rowsOf s d → t < blocks → s .z ≤ e → e < countOf (s .block) (s .z) ds i
+    → getD w (t * s .block + origin (s .block) (s .z) ds i e) 0 ≡ getD B (t * s .block + origin (s .block) (s .z) ds i e) 0
 
 module _ (s : Scheme) (ds : List ℕ) (d blocks g j : ℕ) (B w : List ℕ) where
   -- before the first row of the group, and after its last
-  pub took-first : j ≡ rowsBefore (s .block) (s .z) ds g
-      → Found (s .block) (s .z) ds (rowsOfCount (s .block) (s .z) d) blocks (rowsBefore (s .block) (s .z) ds (g + 1)) B w → TookRows s ds d blocks g j B w
+  pub took-first : j ≡ rowsBefore s ds g → Found s ds d blocks (g + 1) B w → Took s ds d blocks g j B w
   took-first e F i f t r =
-      F i f t
-      (⊎-elim (λ (k : (rowsBefore (s .block) (s .z) ds g ≤ i) × (i < j)). omega arith)
-      (λ (k : rowsBefore (s .block) (s .z) ds (g + 1) ≤ i). k) r)
+      F i f t (⊎-elim (λ (k : (rowsBefore s ds g ≤ i) × (i < j)). omega arith) (λ (k : rowsBefore s ds (g + 1) ≤ i). k) r)
 
-  pub took-last : j ≡ rowsBefore (s .block) (s .z) ds (g + 1)
-      → TookRows s ds d blocks g j B w → Found (s .block) (s .z) ds (rowsOfCount (s .block) (s .z) d) blocks (rowsBefore (s .block) (s .z) ds g) B w
+  pub took-last : j ≡ rowsBefore s ds (g + 1) → Took s ds d blocks g j B w → Found s ds d blocks g B w
   took-last e T i f t l =
       T i f t
-      (⊎-elim (λ (k : i < rowsBefore (s .block) (s .z) ds (g + 1)). inl (l, omega arith)) (λ (k : rowsBefore (s .block) (s .z) ds (g + 1) ≤ i). inr k)
-      (lt-or-le i (rowsBefore (s .block) (s .z) ds (g + 1))))
+      (⊎-elim (λ (k : i < rowsBefore s ds (g + 1)). inl (l, omega arith)) (λ (k : rowsBefore s ds (g + 1) ≤ i). inr k) (lt-or-le i (rowsBefore s ds (g + 1))))
 
 -- ---- the bytes counted in a group: those of d parties and `blocks` blocks in each row passed
 
@@ -90,54 +76,64 @@ module _ (d blocks used : ℕ) {from end from′ end′ : ℕ} (e : from ≡ fro
 
 -- ---- row j of the group g, in the code's numbers: P rows of d, and the group's rows from `from` to `end` - 1
 
-pub record RowAt (s : Scheme) (ds : List ℕ) (d g P from end j : ℕ) : Type 0 where
-  pub scheme : SchemeIs s (s .n) (s .r) (s .z) ds
-  pub count : occurs d ds ≡ true
+pub record RowAt (s : Scheme) (ds : List ℕ) (d blocks : ℕ) (points prefixes : List ℕ) (g P from end j : ℕ) : Type 0 where
+  pub input : Input s ds d blocks points prefixes
   pub group : g < length ds
   pub above : d ≤ getD ds g 0
-  pub P-is : P ≡ rowsOfCount (s .block) (s .z) d
-  pub from-is : from ≡ rowsBefore (s .block) (s .z) ds g
-  pub end-is : end ≡ rowsBefore (s .block) (s .z) ds (g + 1)
+  pub P-is : P ≡ rowsOf s d
+  pub from-is : from ≡ rowsBefore s ds g
+  pub end-is : end ≡ rowsBefore s ds (g + 1)
   pub low : from ≤ j
   pub high : j < end
 
-module _ {s : Scheme} {ds : List ℕ} {d g P from end j : ℕ} (R : RowAt s ds d g P from end j) where
-  A-of : facts.Accepted (s .n) (s .r) (s .z) ds (s .block) (s .rows)
-  A-of = facts-of s ds (R .scheme)
+module _ {s : Scheme} {ds : List ℕ} {d blocks : ℕ} {points prefixes : List ℕ} {g P from end j : ℕ} (R : RowAt s ds d blocks points prefixes g P from end j) where
+  own : j < rowsOf s (getD ds g 0)
+  own = omega (arith, R .high, R .end-is, before-next s ds g)
 
-  own : j < rowsOfCount (s .block) (s .z) (getD ds g 0)
-  own = omega (arith, R .high, R .end-is, before-next (s .block) (s .z) ds g)
-
-  row-inside : j < rowsOfCount (s .block) (s .z) d
-  row-inside = omega (arith, R .high, R .end-is, group-most s ds (R .scheme) d (R .count) g (R .group) (R .above))
+  row-inside : j < rowsOf s d
+  row-inside = omega (arith, R .high, R .end-is, group-most (R .input) g (R .group) (R .above))
 
   pub row-below : j < s .rows
-  row-below = omega (arith, own, rows-most (s .n) (s .r) (s .z) ds (s .block) (s .rows) A-of g (R .group))
+  row-below = omega (arith, own, rows-most (s .n) (s .r) (s .z) ds (s .block) (s .rows) (A (R .input)) g (R .group))
 
   row-group : groupOf (s .block) (s .z) ds j ≡ g
   row-group =
-      group-is (s .n) (s .r) (s .z) ds (s .block) (s .rows) A-of g j (R .group) own
-      (λ pos. omega (arith, R .low, R .from-is, before-some (s .block) (s .z) ds g pos))
+      group-is (s .n) (s .r) (s .z) ds (s .block) (s .rows) (A (R .input)) g j (R .group) own
+      (λ pos. omega (arith, R .low, R .from-is, before-some s ds g pos))
 
   pub row-count : getD ds g 0 ≡ countOf (s .block) (s .z) ds j
   unfolding countOf
   row-count = ap (λ (x : ℕ). getD ds x 0) (sym row-group)
 
-  module _ (blocks : ℕ) (places : List ℕ) (O : RowOrigins (s .block) (s .z) ds j (getD ds g 0) places) where
-    pub row-place : Place (s .z) d (s .block) (getD ds g 0) blocks (P * blocks) (j * blocks) places
-    row-place =
+  -- the sizes of what is read
+  abbrev pub sizes : Sizes
+  sizes = record { z = s .z; d = d; block = s .block; blocks = blocks; prefix = P * blocks }
+
+  pub sizes-fit : SizesFit sizes points prefixes
+  sizes-fit =
+      record {
+        z-low = le-of-lt (order-of (R .input) .above);
+        d-high = count-high (R .input);
+        block-high = A (R .input) .limit;
+        blocks-high = R .input .blocks-high;
+        points-long = R .input .points-long;
+        prefixes-long = R .input .prefixes-long ∙ ap (λ (x : ℕ). d * (x * blocks)) (sym (R .P-is));
+      }
+
+  module _ {places : List ℕ} (O : RowOrigins (s .block) (s .z) ds j (getD ds g 0) places) where
+    pub row-fits : RowFits sizes (getD ds g 0) (j * blocks) places
+    row-fits =
         record {
           top-low = R .above;
-          top-high = omega (arith, A-of .high g (R .group), A-of .sizes .parties-high);
+          top-high = omega (arith, A (R .input) .high g (R .group), A (R .input) .sizes .parties-high);
           inside = row-room j P blocks (omega (arith, row-inside, R .P-is));
           places-low = O .below;
         }
 
     -- the row of each block of B
-    row-sent : (points prefixes B K : List ℕ) → Sent (s .block) (s .rows) (s .z) ds d blocks points prefixes B K
-        → RowOf (s .z) d (getD ds g 0) (s .block) blocks (P * blocks) (j * blocks) points prefixes places B
+    row-sent : (B K : List ℕ) → Sent s ds d blocks points prefixes B K → RowOf sizes (getD ds g 0) (j * blocks) places points prefixes B
     unfolding coefficientAt
-    row-sent points prefixes B K X =
+    row-sent B K X =
         record {
           row = λ t. tabulate (countOf (s .block) (s .z) ds j) (coefficientAt (s .block) (s .rows) (s .z) ds B K t j);
           long = λ t h. length-tabulate {A = ℕ} (countOf (s .block) (s .z) ds j) _ ∙ sym row-count;
@@ -150,23 +146,23 @@ module _ {s : Scheme} {ds : List ℕ} {d g P from end j : ℕ} (R : RowAt s ds d
           sent = λ t a h l. rw (R .P-is) (X .rows j t a row-inside h l);
         }
 
-    module _ (B w : List ℕ) (T : TookRows s ds d blocks g j B w) where
+    module _ (B w : List ℕ) (T : Took s ds d blocks g j B w) where
       -- what the row's loop needs is in the buffer
       row-known : Holds 0 blocks (s .block) d (getD ds g 0) places B w
       row-known t e a b low high =
-          let F = order-of s ds (R .scheme) d (R .count) .again j e row-inside low (rw (← row-count) high) in
+          let F = order-of (R .input) .again j e row-inside low (rw (← row-count) high) in
           let same : origin (s .block) (s .z) ds (F .row) (F .degree) ≡ getD places e 0
-          = F .is ∙ sym (O .is e (omega (arith, order-of s ds (R .scheme) d (R .count) .above)) high) in
+          = F .is ∙ sym (O .is e (omega (arith, order-of (R .input) .above)) high) in
           rw same at
-          (T (F .row) (F .degree) t (inr (omega (arith, F .past, ap (rowsOfCount (s .block) (s .z)) row-count, before-next (s .block) (s .z) ds g)))
-          (F .within) b (F .low) (degree-within s ds (R .scheme) d (R .count) F))
+          (T (F .row) (F .degree) t (inr (omega (arith, F .past, ap (rowsOf s) row-count, before-next s ds g)))
+          (F .within) b (F .low) (degree-within (R .input) F))
 
       -- and it adds the row
-      row-found : (w′ : List ℕ) → Solved 0 blocks (s .block) (s .z) d places B w w′ → TookRows s ds d blocks g (j + 1) B w′
+      row-found : (w′ : List ℕ) → Solved 0 blocks (s .block) (s .z) d places B w w′ → Took s ds d blocks g (j + 1) B w′
       row-found w′ X i e t which below ht low high =
-          ⊎-elim (λ (k : (rowsBefore (s .block) (s .z) ds g ≤ i) × (i < j + 1)).
+          ⊎-elim (λ (k : (rowsBefore s ds g ≤ i) × (i < j + 1)).
           ⊎-elim (λ (l : i < j). X .still _ (T i e t (inl (k .0, l)) below ht low high)) (λ (l : j ≤ i). self (omega arith)) (lt-or-le i j))
-          (λ (k : rowsBefore (s .block) (s .z) ds (g + 1) ≤ i). X .still _ (T i e t (inr k) below ht low high)) which
+          (λ (k : rowsBefore s ds (g + 1) ≤ i). X .still _ (T i e t (inr k) below ht low high)) which
         where
           self : i ≡ j → getD w′ (t * s .block + origin (s .block) (s .z) ds i e) 0 ≡ getD B (t * s .block + origin (s .block) (s .z) ds i e) 0
           self q =
@@ -177,8 +173,6 @@ module _ {s : Scheme} {ds : List ℕ} {d g P from end j : ℕ} (R : RowAt s ds d
               rw same at v
 
     -- the row's loop, for every B that has these prefixes
-    pub row-done : (points prefixes w w′ : List ℕ) (basis : List (List ℕ))
-        → Solves 0 blocks (s .z) d (getD ds g 0) (s .block) blocks (P * blocks) (j * blocks) points basis prefixes places w w′
-        → (B K : List ℕ) → BasisOf points basis → Sent (s .block) (s .rows) (s .z) ds d blocks points prefixes B K
-        → TookRows s ds d blocks g j B w → TookRows s ds d blocks g (j + 1) B w′
-    row-done points prefixes w w′ basis F B K I X T = row-found B w T w′ (F B I (row-sent points prefixes B K X) (row-known B w T))
+    pub row-done : (w w′ : List ℕ) (basis : List (List ℕ)) → Solves sizes (getD ds g 0) (j * blocks) places points basis prefixes 0 blocks w w′
+        → EachSent s ds d blocks points basis prefixes (λ B. Took s ds d blocks g j B w → Took s ds d blocks g (j + 1) B w′)
+    row-done w w′ basis F B K I X T = row-found B w T w′ (F B I (row-sent B K X) (row-known B w T))

@@ -2,20 +2,24 @@
 -- The contracts speak of every such B, and say of a write only that it is a byte of B: what was one stays one.
 -- Assumes nothing.
 use mathlib.Core.Path.{_≡_}
+use mathlib.Core.Bool.{true}
 use mathlib.Core.List.{List, [], map}
-use Prim.Native.Nat.{ℕ, zero, suc, _+_, _*_, _≤_, _<_}
+use Prim.Native.Nat.{ℕ, zero, suc, _+_, _-_, _*_, _≤_, _<_}
 use lib.ListN.{length, getD, take}
-use Rattle.lists.specs.Each.{Each, Distinct, Byte}
+use Rattle.lists.specs.Each.{Each, Distinct, Byte, occurs}
 use Rattle.lists.specs.Table.{tabulate}
 use Rattle.gf256.specs.Byte.{_⊕_, _⊗_}
 use Rattle.gf256.specs.Lanes.{lanes}
 use Rattle.interpolation.specs.Polynomial.{eval, sumTo}
 use Rattle.interpolation.specs.Interpolation.{side, basisTable}
+use Rattle.scheme.specs.declared.Scheme.{Scheme}
+use Rattle.scheme.specs.Facts.{SchemeIs}
 use Rattle.scheme.specs.Limits.{maxBlock, maxMessage}
 use Rattle.scheme.specs.Check.{rowsOfCount}
 use Rattle.family.specs.Message.{Bytes}
 use Rattle.staircase.specs.Coefficients.{countOf, origin, coefficientAt}
 use Rattle.columns.specs.Columns.{strided}
+use Rattle.reader.specs.declared.decoding.Sizes.{Sizes}
 
 -- the largest number that places are counted in
 abbrev pub maxUsize : ℕ
@@ -51,24 +55,23 @@ abbrev pub Scattered : List ℕ → ℕ → ℕ → ℕ → ℕ → List ℕ →
 Scattered column at step many n w w′ =
     (B : List ℕ) → ((k : ℕ) → k < many → getD column k 0 ≡ getD B (at + k * step) 0) → Wrote B w w′ n (λ k. at + k * step)
 
--- ---- one row
+-- ---- one row, of what is read in these sizes
 
--- the sizes of what is read: z keys a row, d parties, `blocks` blocks of m bytes, and prefixes of `prefix` bytes
-pub record Sizes (z d m blocks prefix : ℕ) (prefixes points work : List ℕ) : Type 0 where
-  pub z-low : z ≤ d
-  pub d-high : d ≤ side
-  pub m-high : m ≤ maxBlock
-  pub blocks-high : blocks ≤ maxMessage
-  pub prefixes-long : length prefixes ≡ d * prefix
-  pub points-long : length points ≡ d
-  pub work-long : length work ≡ blocks * m
+-- the sizes are within their limits, and those of the prefixes and of the points
+pub record SizesFit (sizes : Sizes) (points prefixes : List ℕ) : Type 0 where
+  pub z-low : sizes .z ≤ sizes .d
+  pub d-high : sizes .d ≤ side
+  pub block-high : sizes .block ≤ maxBlock
+  pub blocks-high : sizes .blocks ≤ maxMessage
+  pub points-long : length points ≡ sizes .d
+  pub prefixes-long : length prefixes ≡ sizes .d * sizes .prefix
 
 -- a row of `top` coefficients, with their places in the block by degree, whose bytes stand from place q on in each prefix
-pub record Place (z d m top blocks prefix q : ℕ) (places : List ℕ) : Type 0 where
-  pub top-low : d ≤ top
+pub record RowFits (sizes : Sizes) (top q : ℕ) (places : List ℕ) : Type 0 where
+  pub top-low : sizes .d ≤ top
   pub top-high : top ≤ side
-  pub inside : q + blocks ≤ prefix
-  pub places-low : (e : ℕ) → z ≤ e → e < top → getD places e 0 < m
+  pub inside : q + sizes .blocks ≤ sizes .prefix
+  pub places-low : (e : ℕ) → sizes .z ≤ e → e < top → getD places e 0 < sizes .block
 
 -- the basis is that of the points, which are distinct bytes
 pub record BasisOf (points : List ℕ) (basis : List (List ℕ)) : Type 0 where
@@ -77,12 +80,13 @@ pub record BasisOf (points : List ℕ) (basis : List (List ℕ)) : Type 0 where
   pub distinct : Distinct points
 
 -- the row in each block of B: its coefficients from degree z up are B's bytes at their places, and the prefixes have its values
-pub record RowOf (z d top m blocks prefix q : ℕ) (points prefixes places B : List ℕ) : Type 0 where
+pub record RowOf (sizes : Sizes) (top q : ℕ) (places points prefixes B : List ℕ) : Type 0 where
   pub row : ℕ → List ℕ
-  pub long : (t : ℕ) → t < blocks → length (row t) ≡ top
-  pub bytes : (t : ℕ) → t < blocks → Each Byte (row t)
-  pub message : (t e : ℕ) → t < blocks → z ≤ e → e < top → getD (row t) e 0 ≡ getD B (t * m + getD places e 0) 0
-  pub sent : (t a : ℕ) → t < blocks → a < d → getD prefixes (a * prefix + (q + t)) 0 ≡ eval (getD points a 0) (row t)
+  pub long : (t : ℕ) → t < sizes .blocks → length (row t) ≡ top
+  pub bytes : (t : ℕ) → t < sizes .blocks → Each Byte (row t)
+  pub message : (t e : ℕ) → t < sizes .blocks → sizes .z ≤ e → e < top → getD (row t) e 0 ≡ getD B (t * sizes .block + getD places e 0) 0
+  pub sent : (t a : ℕ) → t < sizes .blocks → a < sizes .d
+      → getD prefixes (a * sizes .prefix + (q + t)) 0 ≡ eval (getD points a 0) (row t)
 
 -- the buffer has B's bytes at the places of degrees `low` to `high` − 1, in the blocks from s to n − 1
 abbrev pub Holds : ℕ → ℕ → ℕ → ℕ → ℕ → List ℕ → List ℕ → List ℕ → Type 0
@@ -96,44 +100,52 @@ pub record Solved (s n m z d : ℕ) (places B w w′ : List ℕ) : Type 0 where
   pub new : Holds s n m z d places B w′
 
 -- what a row's loop over the blocks from s to n − 1 does: said for every B that has these prefixes and is known from degree d up
-abbrev pub Solves : ℕ → ℕ → ℕ → ℕ → ℕ → ℕ → ℕ → ℕ → ℕ → List ℕ → List (List ℕ) → List ℕ → List ℕ → List ℕ → List ℕ → Type 0
-Solves s n z d top m blocks prefix q points basis prefixes places w w′ =
-    (B : List ℕ) → BasisOf points basis → RowOf z d top m blocks prefix q points prefixes places B
-    → Holds s n m d top places B w → Solved s n m z d places B w w′
+abbrev pub Solves : Sizes → ℕ → ℕ → List ℕ → List ℕ → List (List ℕ) → List ℕ → ℕ → ℕ → List ℕ → List ℕ → Type 0
+Solves sizes top q places points basis prefixes s n w w′ =
+    (B : List ℕ) → BasisOf points basis → RowOf sizes top q places points prefixes B
+    → Holds s n (sizes .block) (sizes .d) top places B w → Solved s n (sizes .block) (sizes .z) (sizes .d) places B w w′
 
--- ---- all rows
+-- ---- all rows, in the scheme s with the counts ds
 
--- B are whole blocks and K their keys, of which these are the prefixes
-pub record Sent (m b z : ℕ) (ds : List ℕ) (d blocks : ℕ) (points prefixes B K : List ℕ) : Type 0 where
-  pub blocks-are : Bytes (blocks * m) B
-  pub keys-are : Bytes (blocks * (b * z)) K
-  pub rows : (j t a : ℕ) → j < rowsOfCount m z d → t < blocks → a < d
-      → getD prefixes (a * (rowsOfCount m z d * blocks) + (j * blocks + t)) 0
-      ≡ eval (getD points a 0) (tabulate (countOf m z ds j) (coefficientAt m b z ds B K t j))
+-- P, the rows of a prefix for the count d
+abbrev pub rowsOf : Scheme → ℕ → ℕ
+rowsOf s d = rowsOfCount (s .block) (s .z) d
+
+-- the bytes of d prefixes
+abbrev pub sentBytes : Scheme → ℕ → ℕ → ℕ
+sentBytes s d blocks = d * (rowsOf s d * blocks)
 
 -- the rows of the groups before group g, which is counted from 0
-unfoldable pub rowsBefore : ℕ → ℕ → List ℕ → ℕ → ℕ
-rowsBefore m z ds zero = 0
-rowsBefore m z ds (suc g) = rowsOfCount m z (getD ds g 0)
+unfoldable pub rowsBefore : Scheme → List ℕ → ℕ → ℕ
+rowsBefore s ds zero = 0
+rowsBefore s ds (suc g) = rowsOf s (getD ds g 0)
 
--- the buffer has B's bytes at all origins of the rows from `from` to P − 1
-abbrev pub Found : ℕ → ℕ → List ℕ → ℕ → ℕ → ℕ → List ℕ → List ℕ → Type 0
-Found m z ds P blocks from B w =
-    (j e t : ℕ) → from ≤ j → j < P → t < blocks → z ≤ e → e < countOf m z ds j
-    → getD w (t * m + origin m z ds j e) 0 ≡ getD B (t * m + origin m z ds j e) 0
+-- the bytes that d parties send of the rows of group g
+abbrev pub groupBytes : Scheme → List ℕ → ℕ → ℕ → ℕ → ℕ
+groupBytes s ds d blocks g = d * ((rowsBefore s ds (g + 1) - rowsBefore s ds g) * blocks)
 
--- what the loop over the rows of group g does: said for every B that has these prefixes and of which the rows of the later groups are found
-abbrev pub Finds : ℕ → ℕ → ℕ → List ℕ → ℕ → ℕ → ℕ → List ℕ → List (List ℕ) → List ℕ → List ℕ → List ℕ → Type 0
-Finds m b z ds d blocks g points basis prefixes w w′ =
-    (B K : List ℕ) → BasisOf points basis → Sent m b z ds d blocks points prefixes B K
-    → Found m z ds (rowsOfCount m z d) blocks (rowsBefore m z ds (g + 1)) B w → Found m z ds (rowsOfCount m z d) blocks (rowsBefore m z ds g) B w′
+-- what is read: the scheme is accepted and d is one of its counts, the blocks are not too many, and there are d points and d prefixes
+pub record Input (s : Scheme) (ds : List ℕ) (d blocks : ℕ) (points prefixes : List ℕ) : Type 0 where
+  pub scheme : SchemeIs s (s .n) (s .r) (s .z) ds
+  pub count : occurs d ds ≡ true
+  pub blocks-high : blocks ≤ maxMessage
+  pub points-long : length points ≡ d
+  pub prefixes-long : length prefixes ≡ sentBytes s d blocks
 
--- the work buffer is every B that has these prefixes, if the basis is that of the points
-abbrev pub Decodes : ℕ → ℕ → ℕ → List ℕ → ℕ → ℕ → List ℕ → List (List ℕ) → List ℕ → List ℕ → Type 0
-Decodes m b z ds d blocks points basis prefixes w =
-    (B K : List ℕ) → BasisOf points basis → Sent m b z ds d blocks points prefixes B K → w ≡ B
+-- B are whole blocks and K their keys, of which these are the prefixes
+pub record Sent (s : Scheme) (ds : List ℕ) (d blocks : ℕ) (points prefixes B K : List ℕ) : Type 0 where
+  pub blocks-are : Bytes (blocks * s .block) B
+  pub keys-are : Bytes (blocks * (s .rows * s .z)) K
+  pub rows : (j t a : ℕ) → j < rowsOf s d → t < blocks → a < d
+      → getD prefixes (a * (rowsOf s d * blocks) + (j * blocks + t)) 0
+      ≡ eval (getD points a 0) (tabulate (countOf (s .block) (s .z) ds j) (coefficientAt (s .block) (s .rows) (s .z) ds B K t j))
 
--- the output is the beginning of every B that has these prefixes, if the basis is that of the points
-abbrev pub Begins : ℕ → ℕ → ℕ → List ℕ → ℕ → ℕ → List ℕ → List (List ℕ) → List ℕ → ℕ → List ℕ → Type 0
-Begins m b z ds d blocks points basis prefixes bytes out =
-    (B K : List ℕ) → BasisOf points basis → Sent m b z ds d blocks points prefixes B K → out ≡ take bytes B
+-- said of every B that has these prefixes, if the basis is that of the points
+abbrev pub EachSent : Scheme → List ℕ → ℕ → ℕ → List ℕ → List (List ℕ) → List ℕ → (List ℕ → Type 0) → Type 0
+EachSent s ds d blocks points basis prefixes Says = (B K : List ℕ) → BasisOf points basis → Sent s ds d blocks points prefixes B K → Says B
+
+-- the buffer has B's bytes at all origins of the rows of the groups from g on, as far as d's
+abbrev pub Found : Scheme → List ℕ → ℕ → ℕ → ℕ → List ℕ → List ℕ → Type 0
+Found s ds d blocks g B w =
+    (j e t : ℕ) → rowsBefore s ds g ≤ j → j < rowsOf s d → t < blocks → s .z ≤ e → e < countOf (s .block) (s .z) ds j
+    → getD w (t * s .block + origin (s .block) (s .z) ds j e) 0 ≡ getD B (t * s .block + origin (s .block) (s .z) ds j e) 0

@@ -2,16 +2,11 @@
 // from that of d down, their rows rising, 64 blocks side by side. Only the scheme, the lengths, the
 // points and the basis decide a branch or an index.
 ghost use mathlib.Core.Path.{_≡_};
-ghost use mathlib.Core.Bool.{true};
 ghost use mathlib.Core.Logic.{_⊎_};
 ghost use Prim.Native.Nat.{ℕ, _+_, _-_, _*_, _≤_, _<_};
 ghost use lib.ListN.{length, getD};
-ghost use Rattle.lists.specs.Each.{occurs};
 ghost use Rattle.gf256.specs.Lanes.{lanes};
 ghost use Rattle.interpolation.specs.Interpolation.{side};
-ghost use Rattle.scheme.specs.Check.{rowsOfCount};
-ghost use Rattle.scheme.specs.Facts.{SchemeIs};
-ghost use Rattle.scheme.specs.Limits.{maxMessage};
 ghost use Rattle.reader.specs.Decoding as decoding;
 use gf256::lanes;
 use gf256::lanes::LANES;
@@ -96,22 +91,35 @@ fn load(prefixes: &[u8], at: usize, end: usize, used: &mut usize) -> [u8; LANES]
     columns::gather(&prefixes[at..end], 0, 1)
 }
 
+// The sizes of what is read: the keys of a row, the number of parties, the block length, the blocks and
+// the bytes of a prefix.
+struct Sizes {
+    z: usize,
+    d: usize,
+    block: usize,
+    blocks: usize,
+    prefix: usize,
+}
+
 // What is left of the bytes of d parties from place q of their prefixes on, `many` of them, when the
 // values of the known columns at their points are taken off.
 fn rests(
+    sizes: Sizes,
     prefixes: &[u8],
     points: &[u8],
     known: &[[u8; LANES]; SIDE],
-    d: usize,
     high: usize,
-    prefix: usize,
     q: usize,
     many: usize,
     used: &mut usize,
 ) -> [[u8; LANES]; SIDE]
-    requires { ⌜ (d ≤ side) × (high ≤ side) × (length (now known) ≡ side) × (many ≤ lanes) × (q + many ≤ prefix) × (length (now prefixes) ≡ d * prefix) × (length (now points) ≡ d) × (now used + d * many ≤ decoding.maxUsize) ⌝ }
-    ensures { λ r. ⌜ (now (used .exit) ≡ now (used .entry) + d * many) × decoding.Rests (now (prefixes .entry)) (now (points .entry)) (now (known .entry)) high prefix q many d r ⌝ }
+    requires input { ⌜ decoding.SizesFit sizes (now points) (now prefixes) × (high ≤ side) × (length (now known) ≡ side) ⌝ }
+    requires batch { ⌜ (many ≤ lanes) × (q + many ≤ sizes .prefix) × (now used + sizes .d * many ≤ decoding.maxUsize) ⌝ }
+    ensures counted { λ _. ⌜ now (used .exit) ≡ now (used .entry) + sizes .d * many ⌝ }
+    ensures rests { λ r. ⌜ decoding.Rests (now (prefixes .entry)) (now (points .entry)) (now (known .entry)) high (sizes .prefix) q many (sizes .d) r ⌝ }
 {
+    let d = sizes.d;
+    let prefix = sizes.prefix;
     let mut rests = [[0u8; LANES]; SIDE];
     let mut a = 0;
     while a < d {
@@ -122,16 +130,6 @@ fn rests(
         a += 1;
     }
     rests
-}
-
-// The sizes of what is read: the keys of a row, the number of parties, the block length, the blocks and
-// the bytes of a prefix.
-struct Sizes {
-    z: usize,
-    d: usize,
-    block: usize,
-    blocks: usize,
-    prefix: usize,
 }
 
 // One row of the blocks from t on, `many` of them: the coefficients from degree d up are known, and
@@ -149,25 +147,17 @@ fn decode_batch(
     used: &mut usize,
     work: &mut [u8],
 )
-    requires { ⌜ decoding.Sizes (sizes .z) (sizes .d) (sizes .block) (sizes .blocks) (sizes .prefix) (now prefixes) (now points) (now work) × decoding.Place (sizes .z) (sizes .d) (sizes .block) top (sizes .blocks) (sizes .prefix) q (now places) × (many ≤ lanes) × (t + many ≤ sizes .blocks) × (now used + sizes .d * many ≤ decoding.maxUsize) ⌝ }
-    ensures { λ _. ⌜ (now (used .exit) ≡ now (used .entry) + sizes .d * many) × decoding.Solves t (t + many) (sizes .z) (sizes .d) top (sizes .block) (sizes .blocks) (sizes .prefix) q (now (points .entry)) (now (basis .entry)) (now (prefixes .entry)) (now (places .entry)) (now (work .entry)) (now (work .exit)) ⌝ }
+    requires input { ⌜ decoding.SizesFit sizes (now points) (now prefixes) × decoding.RowFits sizes top q (now places) × (length (now work) ≡ sizes .blocks * sizes .block) ⌝ }
+    requires batch { ⌜ (many ≤ lanes) × (t + many ≤ sizes .blocks) × (now used + sizes .d * many ≤ decoding.maxUsize) ⌝ }
+    ensures counted { λ _. ⌜ now (used .exit) ≡ now (used .entry) + sizes .d * many ⌝ }
+    ensures solved { λ _. ⌜ decoding.Solves sizes top q (now (places .entry)) (now (points .entry)) (now (basis .entry)) (now (prefixes .entry)) t (t + many) (now (work .entry)) (now (work .exit)) ⌝ }
 {
     let z = sizes.z;
     let d = sizes.d;
     let m = sizes.block;
     let known = known(work, places, d, top, t, m);
     let high = known_count(d, top);
-    let rests = rests(
-        prefixes,
-        points,
-        &known,
-        d,
-        high,
-        sizes.prefix,
-        q + t,
-        many,
-        used,
-    );
+    let rests = rests(sizes, prefixes, points, &known, high, q + t, many, used);
     let mut e = z;
     while e < d {
         let column = combine(&rests, basis, d, e);
@@ -188,8 +178,10 @@ fn decode_row(
     used: &mut usize,
     work: &mut [u8],
 )
-    requires { ⌜ decoding.Sizes (sizes .z) (sizes .d) (sizes .block) (sizes .blocks) (sizes .prefix) (now prefixes) (now points) (now work) × decoding.Place (sizes .z) (sizes .d) (sizes .block) top (sizes .blocks) (sizes .prefix) q (now places) × (now used + sizes .d * sizes .blocks ≤ decoding.maxUsize) ⌝ }
-    ensures { λ _. ⌜ (now (used .exit) ≡ now (used .entry) + sizes .d * sizes .blocks) × decoding.Solves 0 (sizes .blocks) (sizes .z) (sizes .d) top (sizes .block) (sizes .blocks) (sizes .prefix) q (now (points .entry)) basis (now (prefixes .entry)) (now (places .entry)) (now (work .entry)) (now (work .exit)) ⌝ }
+    requires input { ⌜ decoding.SizesFit sizes (now points) (now prefixes) × decoding.RowFits sizes top q (now places) × (length (now work) ≡ sizes .blocks * sizes .block) ⌝ }
+    requires counter { ⌜ now used + sizes .d * sizes .blocks ≤ decoding.maxUsize ⌝ }
+    ensures counted { λ _. ⌜ now (used .exit) ≡ now (used .entry) + sizes .d * sizes .blocks ⌝ }
+    ensures solved { λ _. ⌜ decoding.Solves sizes top q (now (places .entry)) (now (points .entry)) basis (now (prefixes .entry)) 0 (sizes .blocks) (now (work .entry)) (now (work .exit)) ⌝ }
 {
     let blocks = sizes.blocks;
     let mut t = 0;
@@ -215,7 +207,7 @@ fn decode_row(
 // The number of rows of the groups before group g.
 fn rows_before(s: Scheme, counts: &[u8], g: usize) -> usize
     requires { ⌜ g ≤ length (now counts) ⌝ }
-    ensures { λ r. ⌜ r ≡ decoding.rowsBefore (s .block) (s .z) (now (counts .entry)) g ⌝ }
+    ensures { λ r. ⌜ r ≡ decoding.rowsBefore s (now (counts .entry)) g ⌝ }
 {
     if g == 0 {
         return 0;
@@ -237,8 +229,10 @@ fn decode_group(
     used: &mut usize,
     work: &mut [u8],
 )
-    requires { ⌜ SchemeIs s (s .n) (s .r) (s .z) (now counts) × (occurs d (now counts) ≡ true) × (blocks ≤ maxMessage) × (length (now points) ≡ d) × (length (now prefixes) ≡ d * (rowsOfCount (s .block) (s .z) d * blocks)) × (length (now work) ≡ blocks * s .block) × (g < length (now counts)) × (d ≤ getD (now counts) g 0) × (now used + d * ((decoding.rowsBefore (s .block) (s .z) (now counts) (g + 1) - decoding.rowsBefore (s .block) (s .z) (now counts) g) * blocks) ≤ decoding.maxUsize) ⌝ }
-    ensures { λ _. ⌜ (now (used .exit) ≡ now (used .entry) + d * ((decoding.rowsBefore (s .block) (s .z) (now (counts .entry)) (g + 1) - decoding.rowsBefore (s .block) (s .z) (now (counts .entry)) g) * blocks)) × decoding.Finds (s .block) (s .rows) (s .z) (now (counts .entry)) d blocks g (now (points .entry)) basis (now (prefixes .entry)) (now (work .entry)) (now (work .exit)) ⌝ }
+    requires input { ⌜ decoding.Input s (now counts) d blocks (now points) (now prefixes) × (length (now work) ≡ blocks * s .block) ⌝ }
+    requires group { ⌜ (g < length (now counts)) × (d ≤ getD (now counts) g 0) × (now used + decoding.groupBytes s (now counts) d blocks g ≤ decoding.maxUsize) ⌝ }
+    ensures counted { λ _. ⌜ now (used .exit) ≡ now (used .entry) + decoding.groupBytes s (now (counts .entry)) d blocks g ⌝ }
+    ensures found { λ _. ⌜ decoding.EachSent s (now (counts .entry)) d blocks (now (points .entry)) basis (now (prefixes .entry)) (λ B. decoding.Found s (now (counts .entry)) d blocks (g + 1) B (now (work .entry)) → decoding.Found s (now (counts .entry)) d blocks g B (now (work .exit))) ⌝ }
 {
     let sizes = Sizes {
         z: s.z as usize,
@@ -270,11 +264,14 @@ pub(crate) fn decode(
     prefixes: &[u8],
     work: &mut [u8],
 ) -> usize
-    requires { ⌜ SchemeIs s (s .n) (s .r) (s .z) (now counts) × (occurs d (now counts) ≡ true) × (blocks ≤ maxMessage) × (length (now points) ≡ d) × (length (now prefixes) ≡ d * (rowsOfCount (s .block) (s .z) d * blocks)) × (length (now work) ≡ blocks * s .block) ⌝ }
-    ensures { λ used. ⌜ (used ≡ d * (rowsOfCount (s .block) (s .z) d * blocks)) × decoding.Decodes (s .block) (s .rows) (s .z) (now (counts .entry)) d blocks (now (points .entry)) basis (now (prefixes .entry)) (now (work .exit)) ⌝ }
+    requires { ⌜ decoding.Input s (now counts) d blocks (now points) (now prefixes) × (length (now work) ≡ blocks * s .block) ⌝ }
+    ensures counted { λ used. ⌜ used ≡ decoding.sentBytes s d blocks ⌝ }
+    ensures decoded { λ _. ⌜ decoding.EachSent s (now (counts .entry)) d blocks (now (points .entry)) basis (now (prefixes .entry)) (λ B. now (work .exit) ≡ B) ⌝ }
 {
     let sent = scheme::rows_of_count(s.block, s.z, d);
     let mut used = 0;
+    // The place after the group of d, which has the last of the rows sent: the loop over the groups starts
+    // there, downwards.
     let mut g = rows::group_of(s.block, s.z, counts, sent - 1) + 1;
     while 0 < g {
         g -= 1;

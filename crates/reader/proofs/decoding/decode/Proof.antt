@@ -1,22 +1,20 @@
 -- `reader::decoding::decode` meets its contract. The invariant: the rows of the groups from g on are found and their bytes counted. The measure is g.
 -- Assumes nothing.
 use mathlib.Core.Path.{_≡_, refl, _∙_}
-use mathlib.Core.List.{List}
-use Prim.Native.Nat.{ℕ, _-_}
+use Prim.Native.Nat.{_-_}
 use native.Mathlib.Omega.{arith}
 use lib.ListN.{length}
 use borrow.Author.Needs.{needs}
-use Rattle.scheme.specs.Check.{rowsOfCount}
-use Rattle.reader.specs.Decoding.{BasisOf, Sent, Found, rowsBefore}
-use Rattle.reader.proofs.GroupOrder.{GroupsLeft, rows-some, left-all, found-none, left-place, left-fits, left-next, found-next, all-counted, all-found}
+use Rattle.reader.specs.Decoding.{EachSent, Found}
+use Rattle.reader.proofs.GroupOrder.{GroupsLeft, rows-some, left-all, found-none, left-place, left-fits, left-next, found-next, all-counted}
+use Rattle.reader.proofs.LaterRows.{found-all}
 use Rattle.reader.proofs.decoding.decode.Statement.{statement}
 use Rattle.reader.proofs.decoding.decode.Tie as tie
 
 abbrev Inv-loop : tie.InvT-loop
 Inv-loop s counts d blocks points basis prefixes work₀ rows used₀ g₀ work used g =
     (length work ≡ length work₀) × GroupsLeft s counts d blocks g used
-    × ((B K : List ℕ) → BasisOf points basis → Sent (s .block) (s .rows) (s .z) counts d blocks points prefixes B K
-    → Found (s .block) (s .z) counts (rowsOfCount (s .block) (s .z) d) blocks (rowsBefore (s .block) (s .z) counts g) B work)
+    × EachSent s counts d blocks points basis prefixes (λ B. Found s counts d blocks g B work)
 
 abbrev μ-loop : tie.MeasureT-loop
 μ-loop s counts d blocks points basis prefixes work₀ rows used₀ g₀ work used g = g
@@ -31,20 +29,19 @@ decode-spec =
     (λ c κs. search needs)
     (λ c.
     let s = c .before .before .before .before .before in
-    omega (arith, c .rows-of-count .ensures, rows-some (s .args .s) (s .args .counts .now) (s .pre .0) (s .args .d) (s .pre .1)))
+    omega (arith, c .rows-of-count .ensures, rows-some (s .pre .0)))
     (λ c κs. search needs)
     (λ c.
     let s = start c in
     let a = s .args in
-    omega (arith, left-all (a .s) (a .counts .now) (s .pre .0) (a .d) (s .pre .1) (c .before .rows-of-count .result) (c .group-of .result) (c .before .rows-of-count .ensures) (c .group-of .ensures) (a .blocks) .within))
+    omega (arith, left-all (s .pre .0) (c .before .rows-of-count .result) (c .group-of .result) (c .before .rows-of-count .ensures) (c .group-of .ensures) .within))
     (λ c.
     let s = start c in
     let a = s .args in (
       refl,
-      left-all (a .s) (a .counts .now) (s .pre .0) (a .d) (s .pre .1) (c .before .rows-of-count .result) (c .group-of .result) (c .before .rows-of-count .ensures) (c .group-of .ensures) (a .blocks),
+      left-all (s .pre .0) (c .before .rows-of-count .result) (c .group-of .result) (c .before .rows-of-count .ensures) (c .group-of .ensures),
       λ B K I X.
-          found-none (a .s) (a .counts .now) (s .pre .0) (a .d) (s .pre .1) (c .before .rows-of-count .result) (c .group-of .result) (c .before .rows-of-count .ensures) (c .group-of .ensures)
-          (a .blocks) B (a .work .now),
+          found-none (s .pre .0) (c .before .rows-of-count .result) (c .group-of .result) (c .before .rows-of-count .ensures) (c .group-of .ensures) B (a .work .now),
     ))
     (λ c. search needs)
     (λ c κs.
@@ -53,15 +50,8 @@ decode-spec =
     let s = start (i .before .before) in
     let a = s .args in
     let pos = i .loop-test .taken in (
-      s .pre .0,
-      s .pre .1,
-      s .pre .2,
-      s .pre .3,
-      s .pre .4,
-      l .inv .0 ∙ s .pre .5,
-      left-place (a .s) (a .counts .now) (s .pre .0) (a .d) (s .pre .1) (a .blocks) (l .g) (l .used) (l .inv .1) pos,
-      l .inv .1 .above pos,
-      omega (arith, left-fits (a .s) (a .counts .now) (s .pre .0) (a .d) (s .pre .1) (a .blocks) (l .g) (l .used) (l .inv .1) pos, s .pre .4),
+      (s .pre .0, l .inv .0 ∙ s .pre .1),
+      (left-place (s .pre .0) (l .inv .1) pos, l .inv .1 .above pos, omega (arith, left-fits (s .pre .0) (l .inv .1) pos, s .pre .0 .prefixes-long)),
     ))
     (λ c.
     let i = c .before .before .before .before .before in
@@ -74,10 +64,10 @@ decode-spec =
     let a = s .args in
     let pos = i .loop-test .taken in (
       o .decode-group .kept .1 .1 .1 .1 .1 .1 .1 .1 .1 .0 ∙ l .inv .0,
-      left-next (a .s) (a .counts .now) (s .pre .0) (a .d) (s .pre .1) (a .blocks) (l .g) (l .used) (l .inv .1) pos (o .decode-group .ensures .0),
+      left-next (s .pre .0) (l .inv .1) pos (o .decode-group .ensures .0),
       λ B K I X.
           o .decode-group .ensures .1 B K I X
-          (found-next (a .s) (a .counts .now) (s .pre .0) (a .d) (s .pre .1) (a .blocks) (l .g) (l .used) (l .inv .1) pos B (l .work) (l .inv .2 B K I X)),
+          (found-next (s .pre .0) (l .inv .1) pos B (l .work) (l .inv .2 B K I X)),
     ))
     (λ c. c .before .loop .inv .0)
     (λ c.
@@ -85,8 +75,7 @@ decode-spec =
     let s = start (c .before .before) in
     let a = s .args in
     let none : l .g ≡ 0 = omega (arith, c .loop-test .left) in (
-      all-counted (a .s) (a .counts .now) (s .pre .0) (a .d) (s .pre .1) (a .blocks) (l .g) (l .used) (l .inv .1) none,
+      all-counted (s .pre .0) (l .inv .1) none,
       λ B K I X.
-          all-found (a .s) (a .counts .now) (s .pre .0) (a .d) (s .pre .1) (a .blocks) (l .g) (l .used) (l .inv .1) none B (l .work) (X .blocks-are .0) (l .inv .0 ∙ s .pre .5)
-          (l .inv .2 B K I X),
+          found-all (s .pre .0) (l .g) B (l .work) none (X .blocks-are .0) (l .inv .0 ∙ s .pre .1) (l .inv .2 B K I X),
     )))

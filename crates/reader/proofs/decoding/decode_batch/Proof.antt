@@ -36,15 +36,15 @@ few d top high h = ⊎-elim (λ (k : (d < top) × (high ≡ top)). rw (k .1) h) 
 
 small : (s : tie.Start Inv-loop μ-loop) → s .args .t * s .args .sizes .block ≤ maxMessage * maxBlock
 small s =
-    let h : s .args .t ≤ maxMessage = omega (arith, s .pre .3, s .pre .0 .blocks-high) in
-    mul-le-mul h (s .pre .0 .m-high)
+    let h : s .args .t ≤ maxMessage = omega (arith, s .pre .1 .1, s .pre .0 .0 .blocks-high) in
+    mul-le-mul h (s .pre .0 .0 .block-high)
 
 near : (c : tie.In-loop Inv-loop μ-loop)
     → let s = start (c .before .before) in
     getD (s .args .places .now) (c .before .loop .e) 0 < s .args .sizes .block
 near c =
     let s = start (c .before .before) in
-    s .pre .1 .places-low (c .before .loop .e) (c .before .loop .inv .0) (omega (arith, c .loop-test .taken, s .pre .1 .top-low))
+    s .pre .0 .1 .places-low (c .before .loop .e) (c .before .loop .inv .0) (omega (arith, c .loop-test .taken, s .pre .0 .1 .top-low))
 
 -- the places of a column are in the buffer
 room : (c : tie.In-loop Inv-loop μ-loop) (k : ℕ)
@@ -58,9 +58,9 @@ room c k h =
     omega (
       arith,
       place-on (s .args .t) k (getD (s .args .places .now) (c .before .loop .e) 0) (p .block),
-      row-room (s .args .t + k) (p .blocks) (p .block) (omega (arith, s .pre .3)),
+      row-room (s .args .t + k) (p .blocks) (p .block) (omega (arith, s .pre .1 .1)),
       near c,
-      s .pre .0 .work-long,
+      s .pre .0 .2,
       c .before .loop .inv .2,
     )
 
@@ -70,24 +70,22 @@ decode-batch-spec =
     (tie.spec Inv-loop μ-loop
     (λ c κs.
     let s = c .before .before .before .before in
-    (s .pre .1 .top-low, s .pre .1 .top-high, omega (arith, small s, s .pre .0 .m-high), λ e a b. s .pre .1 .places-low e (omega (arith, s .pre .0 .z-low)) b))
+    (s .pre .0 .1 .top-low, s .pre .0 .1 .top-high, omega (arith, small s, s .pre .0 .0 .block-high), λ e a b. s .pre .0 .1 .places-low e (omega (arith, s .pre .0 .0 .z-low)) b))
     (λ c κs. search needs)
     (λ c.
     let s = c .before .before .before .before .before .before .before in
-    omega (arith, s .pre .1 .inside, s .pre .3))
+    omega (arith, s .pre .0 .1 .inside, s .pre .1 .1))
     (λ c κs.
     let s = c .before .before .before .before .before .before .before .before in
     let a = s .args in (
-      s .pre .0 .d-high,
-      few (a .sizes .d) (a .top) (c .before .before .known-count .result) (s .pre .1 .top-high) (c .before .before .known-count .ensures),
-      c .before .before .before .known .ensures .long,
-      s .pre .2,
-      omega (arith, s .pre .3, s .pre .1 .inside),
-      s .pre .0 .prefixes-long,
-      s .pre .0 .points-long,
-      s .pre .4,
+      (
+        s .pre .0 .0,
+        few (a .sizes .d) (a .top) (c .before .before .known-count .result) (s .pre .0 .1 .top-high) (c .before .before .known-count .ensures),
+        c .before .before .before .known .ensures .long,
+      ),
+      (s .pre .1 .0, omega (arith, s .pre .1 .1, s .pre .0 .1 .inside), s .pre .1 .2),
     ))
-    (λ c. (le-refl _, start c .pre .0 .z-low, refl, λ B h. solved-none _ _ _ _ _ B _))
+    (λ c. (le-refl _, start c .pre .0 .0 .z-low, refl, λ B h. solved-none _ _ _ _ _ B _))
     (λ c κs. search needs)
     (λ c. omega (arith, small (start (c .before .before .before .before))))
     (λ c. search needs)
@@ -96,10 +94,10 @@ decode-batch-spec =
     (λ c κs.
     let i = c .before .before .before .before in
     let s = start (i .before .before) in
-    (s .pre .2, omega (arith, small s, near i, s .pre .0 .m-high), room i))
+    (s .pre .1 .0, omega (arith, small s, near i, s .pre .0 .0 .block-high), room i))
     (λ c.
     let i = c .before .before .before .before .before .before .before in
-    omega (arith, i .loop-test .taken, start (i .before .before) .pre .0 .d-high))
+    omega (arith, i .loop-test .taken, start (i .before .before) .pre .0 .0 .d-high))
     (λ c.
     let i = c .before .before .before .before .before .before .before in
     omega (arith, i .loop-test .taken))
@@ -129,8 +127,6 @@ decode-batch-spec =
       λ B I R H.
           subst (λ (x : ℕ). Solved (a .t) (a .t + a .many) (p .block) (p .z) x (a .places .now) B (a .work .now) (l .work)) whole
           (l .inv .3 B
-          (batch-step (p .z) (p .d) (a .top) (k .before .known-count .result) (p .block) (p .blocks) (p .prefix) (a .q) (a .t) (a .many)
-          (a .points .now) (a .prefixes .now) (a .places .now) (a .work .now) B (a .basis .now) (k .before .before .known .result) (r .rests .result)
-          I R H (k .before .before .known .ensures) (r .rests .ensures .1) (k .before .known-count .ensures)
-          (s .pre .0 .z-low) (s .pre .0 .points-long) (s .pre .1 .top-low) (s .pre .1 .top-high) (s .pre .2) (s .pre .3))),
+          (batch-step (s .pre .0 .0) (s .pre .0 .1) (s .pre .1 .0) (s .pre .1 .1) (k .before .before .known .ensures) (k .before .known-count .ensures)
+          (r .rests .ensures .1) I R H)),
     )))

@@ -18,8 +18,8 @@ use Rattle.reader.proofs.decoding.decode_row.Tie as tie
 abbrev Inv-loop : tie.InvT-loop
 Inv-loop sizes prefixes points places top q used₀ work₀ basis blocks t₀ used work t =
     (t ≤ blocks) × (used ≡ used₀ + sizes .d * t) × (length work ≡ length work₀)
-    × ((B : List ℕ) → BasisOf points basis → RowOf (sizes .z) (sizes .d) top (sizes .block) blocks (sizes .prefix) q points prefixes places B
-    → Holds 0 blocks (sizes .block) (sizes .d) top places B work₀
+    × ((B : List ℕ) → BasisOf points basis → RowOf sizes top q places points prefixes B
+    → Holds 0 (sizes .blocks) (sizes .block) (sizes .d) top places B work₀
     → Solved 0 t (sizes .block) (sizes .z) (sizes .d) places B work₀ work)
 
 abbrev μ-loop : tie.MeasureT-loop
@@ -52,7 +52,7 @@ counted c =
     let l = c .before .before .loop in
     let n = c .batch-of .result in
     let e : d * (l .t + n) ≡ d * l .t + d * n = mul-add d (l .t) n in
-    (omega (arith, l .inv .1), omega (arith, l .inv .1, mul-le-mul-left d (within c), s .pre .2))
+    (omega (arith, l .inv .1), omega (arith, l .inv .1, mul-le-mul-left d (within c), s .pre .1))
 
 pub decode-row-spec : {M : Type 1} → statement M
 decode-row-spec =
@@ -67,24 +67,10 @@ decode-row-spec =
     let a = c .before .before .before in
     let l = a .before .before .loop in
     let s = start (a .before .before .before) in
-    let p = s .pre .0 in (
-      record {
-        z-low = p .z-low;
-        d-high = p .d-high;
-        m-high = p .m-high;
-        blocks-high = p .blocks-high;
-        prefixes-long = p .prefixes-long;
-        points-long = p .points-long;
-        work-long = l .inv .2 ∙ p .work-long;
-      },
-      s .pre .1,
-      batch a .0,
-      within a,
-      counted a .1,
-    ))
+    ((s .pre .0 .0, s .pre .0 .1, l .inv .2 ∙ s .pre .0 .2), (batch a .0, within a, counted a .1)))
     (λ c.
     let a = c .before .before .before .before .before .before in
-    omega (arith, within a, start (a .before .before .before) .pre .0 .blocks-high))
+    omega (arith, within a, start (a .before .before .before) .pre .0 .0 .blocks-high))
     (λ c.
     let a = c .before .before .before .before .before .before in
     let more : 0 < a .batch-of .result = batch a .2 (omega (arith, a .before .loop-test .taken)) in

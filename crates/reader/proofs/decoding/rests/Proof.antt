@@ -15,19 +15,19 @@ use Rattle.reader.proofs.decoding.rests.Statement.{statement}
 use Rattle.reader.proofs.decoding.rests.Tie as tie
 
 abbrev Inv-loop : tie.InvT-loop
-Inv-loop prefixes points known d high prefix q many used₀ rests₀ a₀ used rests a =
+Inv-loop prefixes points known high q many used₀ d prefix rests₀ a₀ used rests a =
     (a ≤ d) × (used ≡ used₀ + a * many) × Rests prefixes points known high prefix q many a rests
 
 abbrev μ-loop : tie.MeasureT-loop
-μ-loop prefixes points known d high prefix q many used₀ rests₀ a₀ used rests a = d - a
+μ-loop prefixes points known high q many used₀ d prefix rests₀ a₀ used rests a = d - a
 
 -- party a's prefix lies inside the prefixes, and so does the part of it that is loaded
 inside : (c : tie.In-loop Inv-loop μ-loop)
     → let a = c .before .before .before .before .args in
-    c .before .loop .a * a .prefix + a .q + a .many ≤ length (a .prefixes .now)
+    c .before .loop .a * a .sizes .prefix + a .q + a .many ≤ length (a .prefixes .now)
 inside c =
     let s = c .before .before .before .before in
-    omega (arith, row-room (c .before .loop .a) (s .args .d) (s .args .prefix) (c .loop-test .taken), s .pre .5)
+    omega (arith, row-room (c .before .loop .a) (s .args .sizes .d) (s .args .sizes .prefix) (c .loop-test .taken), s .pre .0 .0 .prefixes-long)
 
 -- the count after this party's part, at most that after all
 counted : (c : tie.In-loop Inv-loop μ-loop)
@@ -37,7 +37,7 @@ counted c =
     let s = c .before .before .before .before in
     let l = c .before .loop in
     let m = s .args .many in
-    (omega (arith, l .inv .1, add-mul (l .a) 1 m), omega (arith, l .inv .1, s .pre .7, row-room (l .a) (s .args .d) m (c .loop-test .taken)))
+    (omega (arith, l .inv .1, add-mul (l .a) 1 m), omega (arith, l .inv .1, s .pre .1 .2, row-room (l .a) (s .args .sizes .d) m (c .loop-test .taken)))
 
 pub rests-spec : {M : Type 1} → statement M
 rests-spec =
@@ -45,14 +45,14 @@ rests-spec =
     (tie.spec Inv-loop μ-loop
     (λ c.
     let a = c .before .before .args in
-    (search needs, omega (arith, zero-mul (a .many)), rests-none (a .prefixes .now) (a .points .now) (a .known .now) (a .high) (a .prefix) (a .q) (a .many)))
+    (search needs, omega (arith, zero-mul (a .many)), rests-none (a .prefixes .now) (a .points .now) (a .known .now) (a .high) (a .sizes .prefix) (a .q) (a .many)))
     (λ c. omega (arith, inside c))
     (λ c. omega (arith, inside c))
     (λ c. omega (arith, inside c))
     (λ c κs.
     let i = c .before in
     let s = i .before .before .before .before in
-    (omega arith, inside i, omega (arith, s .pre .3), omega (arith, counted i .1)))
+    (omega arith, inside i, omega (arith, s .pre .1 .0), omega (arith, counted i .1)))
     (λ c. search needs)
     (λ c κs. search needs)
     (λ c κs. search needs)
@@ -69,11 +69,11 @@ rests-spec =
     let a = s .args in (
       omega arith,
       omega (arith, o .load .ensures .0, counted i .0),
-      rests-more (a .prefixes .now) (a .points .now) (a .known .now) (a .high) (a .prefix) (a .q) (a .many) (l .a) (l .rests) (o .load .result) (v .row-values .result) (c .sum-each .result)
-          (l .inv .2) (omega arith) (s .pre .3) (λ k h. o .load .ensures .1 k (omega arith)) (v .row-values .ensures ∙ values-take (a .high) (a .known .now) _ (s .pre .2) (s .pre .1)) (c .sum-each .ensures),
+      rests-more (a .prefixes .now) (a .points .now) (a .known .now) (a .high) (a .sizes .prefix) (a .q) (a .many) (l .a) (l .rests) (o .load .result) (v .row-values .result) (c .sum-each .result)
+          (l .inv .2) (omega arith) (s .pre .1 .0) (λ k h. o .load .ensures .1 k (omega arith)) (v .row-values .ensures ∙ values-take (a .high) (a .known .now) _ (s .pre .0 .2) (s .pre .0 .1)) (c .sum-each .ensures),
     ))
     (λ c.
     let l = c .before .loop in
     let a = c .before .before .before .before .args in
-    let whole : l .a ≡ a .d = omega arith in
+    let whole : l .a ≡ a .sizes .d = omega arith in
     (l .inv .1 ∙ ap (λ (x : ℕ). a .used .now + x * a .many) whole, rw whole at (l .inv .2))))

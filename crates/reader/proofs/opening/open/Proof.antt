@@ -22,7 +22,7 @@ use Rattle.reader.proofs.opening.open.Tie as tie
 few-of : (c : tie.After-slice-known) → length (c .before .before .before .before .args .parties .now) ≤ side
 few-of c =
     let s = c .before .before .before .before in
-    count-most (parameters (s .args .s .n) (s .args .s .r) (s .args .s .z) (s .args .counts .now)) (s .pre .0 .passed) (length (s .args .parties .now)) (s .pre .1)
+    count-most (parameters (s .args .s .n) (s .args .s .r) (s .args .s .z) (s .args .counts .now)) (s .pre .0 .0 .passed) (length (s .args .parties .now)) (s .pre .0 .1)
 
 pub open-spec : {M : Type 1} → statement M
 open-spec =
@@ -40,13 +40,15 @@ open-spec =
     let s = o .before .before .before .before .before in
     let h = s .pre in
     let p = parameters (s .args .s .n) (s .args .s .r) (s .args .s .z) (s .args .counts .now) in (
-      h .0,
-      h .1,
-      blocks-few p (s .args .s) (h .0) _ (s .args .blocks) (h .4) (h .3),
-      length-take-le _ (o .points-of .result) (omega (arith, few-of (o .before))),
-      h .5,
-      fits-buffer p (s .args .s) (h .0) _ (s .args .blocks) (h .4) (h .3),
-      covers p (s .args .s) (h .0) _ (s .args .blocks) (h .4) (h .3),
+      record {
+        scheme = h .0 .0;
+        count = h .0 .1;
+        blocks-high = blocks-few p (s .args .s) (h .0 .0) _ (s .args .blocks) (h .1 .1) (h .1 .0);
+        points-long = length-take-le _ (o .points-of .result) (omega (arith, few-of (o .before)));
+        prefixes-long = h .1 .2;
+      },
+      fits-buffer p (s .args .s) (h .0 .0) _ (s .args .blocks) (h .1 .1) (h .1 .0),
+      covers p (s .args .s) (h .0 .0) _ (s .args .blocks) (h .1 .1) (h .1 .0),
     ))
     (λ c. search needs)
     (λ c.
@@ -58,6 +60,6 @@ open-spec =
     let h = s .pre in
     let bytes = each-of Byte (a .prefixes .now) 0 (λ i l. o .before .before .shared-slice-known3 .given i .fits) in (
       f .open-into .ensures .0,
-      begins (a .s) _ (h .0) (a .parties .now) (h .1) (h .2) _ (a .blocks) (h .3) (h .4) (a .prefixes .now) (h .5) bytes _ _ (points-are _ _ _ (o .points-of .ensures _) (few-of (o .before))) (b .basis .ensures) _
+      begins (a .s) _ (h .0 .0) (a .parties .now) (h .0 .1) (h .0 .2) (a .blocks) (a .prefixes .now) (h .1 .2) bytes _ _ (points-are _ _ _ (o .points-of .ensures _) (few-of (o .before))) (b .basis .ensures) (length (a .out .now)) _
           (f .open-into .ensures .1),
     )))

@@ -20,7 +20,7 @@ part-long : (c : tie.After-decode-arg)
     length (take (a .blocks * a .s .block) (a .work .now)) ≡ a .blocks * a .s .block
 part-long c =
     let s = c .before .before .before .before .before .before .before in
-    length-take-le _ (s .args .work .now) (s .pre .5)
+    length-take-le _ (s .args .work .now) (s .pre .1)
 
 pub open-into-spec : {M : Type 1} → statement M
 open-into-spec =
@@ -31,7 +31,7 @@ open-into-spec =
     (λ c. sym (part-long c))
     (λ c κs.
     let h = c .before .before .before .before .before .before .before .pre in
-    (h .0, h .1, h .2, h .3, h .4, part-long c))
+    (h .0, part-long c))
     (λ c κs. search needs)
     (λ c. search needs)
     (λ c. search needs)
@@ -39,4 +39,4 @@ open-into-spec =
     let f = c .before .before in
     let d = f .before .before .before .before .before in
     let s = d .before .before .before .before .before .before .before .before in
-    (d .decode .ensures .0, λ B K I X. cut _ _ B _ (length (s .args .out .now)) (f .copy .ensures) (rw (X .blocks-are .0) (s .pre .6)) (d .decode .ensures .1 B K I X))))
+    (d .decode .ensures .0, λ B K I X. cut _ _ B _ (length (s .args .out .now)) (f .copy .ensures) (rw (X .blocks-are .0) (s .pre .2)) (d .decode .ensures .1 B K I X))))
