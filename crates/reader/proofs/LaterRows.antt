@@ -22,7 +22,7 @@ use Rattle.staircase.specs.Coefficients.{countOf}
 use Rattle.staircase.proofs.Groups.{counts-fall, rows-rise}
 use Rattle.staircase.proofs.Order.{Order, Stands, order}
 use Rattle.staircase.proofs.Sizes.{rows-few}
-use Rattle.reader.specs.Decoding.{rowsOf, rowsBefore, Input, Found}
+use Rattle.reader.specs.Decoding.{sentRows, rowsBefore, Input, Found}
 use Rattle.rows.proofs.Scheme.{facts-of}
 
 -- ---- the rows before a group
@@ -33,12 +33,12 @@ module _ (s : Scheme) (ds : List ℕ) where
   before-none zero e = refl
   before-none (suc g) e = absurd (suc-ne-zero g e)
 
-  pub before-some : (g : ℕ) → 0 < g → rowsOf s (getD ds (g - 1) 0) ≡ rowsBefore s ds g
+  pub before-some : (g : ℕ) → 0 < g → sentRows s (getD ds (g - 1) 0) ≡ rowsBefore s ds g
   unfolding rowsBefore
   before-some zero h = absurd (not-suc-le-zero h)
-  before-some (suc g) h = ap (λ (x : ℕ). rowsOf s (getD ds x 0)) (omega arith)
+  before-some (suc g) h = ap (λ (x : ℕ). sentRows s (getD ds x 0)) (omega arith)
 
-  pub before-next : (g : ℕ) → rowsBefore s ds (g + 1) ≡ rowsOf s (getD ds g 0)
+  pub before-next : (g : ℕ) → rowsBefore s ds (g + 1) ≡ sentRows s (getD ds g 0)
   unfolding rowsBefore
   before-next g = rw add-one
 
@@ -61,18 +61,18 @@ module _ {s : Scheme} {ds : List ℕ} {d blocks : ℕ} {points prefixes : List �
   place-is = occurs-place d ds (I .count) .2
 
   -- what is known of the origins in the rows of d
-  pub order-of : Order (s .block) (s .rows) (s .z) ds d (rowsOf s d)
-  order-of = order (s .n) (s .r) (s .z) ds (s .block) (s .rows) A place d (rowsOf s d) place-low (sym place-is) refl
+  pub order-of : Order (s .block) (s .rows) (s .z) ds d (sentRows s d)
+  order-of = order (s .n) (s .r) (s .z) ds (s .block) (s .rows) A place d (sentRows s d) place-low (sym place-is) refl
 
   -- a degree from z up of one of these rows, below d, is one of the row's
-  pub degree-within : {from p : ℕ} (F : Stands (s .block) (s .z) ds (rowsOf s d) d from p) → F .degree < countOf (s .block) (s .z) ds (F .row)
+  pub degree-within : {from p : ℕ} (F : Stands (s .block) (s .z) ds (sentRows s d) d from p) → F .degree < countOf (s .block) (s .z) ds (F .row)
   degree-within F = omega (arith, F .high, order-of .wide (F .row) (F .within))
 
   pub count-high : d ≤ side
   count-high = omega (arith, place-is, A .high place place-low, A .sizes .parties-high)
 
   -- the bytes of a prefix are few
-  pub prefix-few : (P : ℕ) → P ≡ rowsOf s d → P * blocks ≤ maxBlock * maxMessage
+  pub prefix-few : (P : ℕ) → P ≡ sentRows s d → P * blocks ≤ maxBlock * maxMessage
   prefix-few P e = mul-le-mul (rows-few (s .block) (s .z) d P (A .limit) e) (I .blocks-high)
 
   -- every place of the block is an origin, so a buffer that has all origins is B
@@ -104,5 +104,5 @@ module _ {s : Scheme} {ds : List ℕ} {d blocks : ℕ} {points prefixes : List �
         omega (arith, before-some s ds g pos, before-next s ds g, rows-rise (s .n) (s .r) (s .z) ds (s .block) (s .rows) A (g - 1) g (omega arith) hg))
         (eq-zero-or-pos g)
 
-    pub group-most : rowsBefore s ds (g + 1) ≤ rowsOf s d
+    pub group-most : rowsBefore s ds (g + 1) ≤ sentRows s d
     group-most = rw (before-next s ds g) (rw place-is at (rows-rise (s .n) (s .r) (s .z) ds (s .block) (s .rows) A g place up-to place-low))

@@ -20,7 +20,7 @@ use Rattle.staircase.specs.Coefficients.{groupOf, countOf, origin, coefficientA
 use Rattle.staircase.proofs.Groups.{rows-most, group-is}
 use Rattle.rows.specs.Sources.{RowOrigins}
 use Rattle.reader.specs.declared.decoding.Sizes.{Sizes}
-use Rattle.reader.specs.Decoding.{SizesFit, RowFits, RowOf, Holds, Solved, Solves, rowsOf, rowsBefore, Input, Sent, EachSent, Found}
+use Rattle.reader.specs.Decoding.{SizesFit, RowFits, RowOf, Holds, Solved, Solves, sentRows, rowsBefore, Input, Sent, EachSent, Found}
 use Rattle.reader.proofs.LaterRows.{before-some, before-next, A, order-of, degree-within, count-high, group-most}
 
 -- the coefficients of blocks and keys that are bytes
@@ -34,7 +34,7 @@ coefficient-byte m b z ds B K t j e hB hK =
 -- the buffer has B's bytes at all origins of the rows of group g before j, and of those of the later groups, as far as d's
 abbrev pub Took : Scheme → List ℕ → ℕ → ℕ → ℕ → ℕ → List ℕ → List ℕ → Type 0
 Took s ds d blocks g j B w =
-    (i e t : ℕ) → ((rowsBefore s ds g ≤ i) × (i < j)) ⊎ (rowsBefore s ds (g + 1) ≤ i) → i < rowsOf s d → t < blocks → s .z ≤ e → e < countOf (s .block) (s .z) ds i
+    (i e t : ℕ) → ((rowsBefore s ds g ≤ i) × (i < j)) ⊎ (rowsBefore s ds (g + 1) ≤ i) → i < sentRows s d → t < blocks → s .z ≤ e → e < countOf (s .block) (s .z) ds i
     → getD w (t * s .block + origin (s .block) (s .z) ds i e) 0 ≡ getD B (t * s .block + origin (s .block) (s .z) ds i e) 0
 
 module _ (s : Scheme) (ds : List ℕ) (d blocks g j : ℕ) (B w : List ℕ) where
@@ -80,17 +80,17 @@ pub record RowAt (s : Scheme) (ds : List ℕ) (d blocks : ℕ) (points prefixes 
   pub input : Input s ds d blocks points prefixes
   pub group : g < length ds
   pub above : d ≤ getD ds g 0
-  pub P-is : P ≡ rowsOf s d
+  pub P-is : P ≡ sentRows s d
   pub from-is : from ≡ rowsBefore s ds g
   pub end-is : end ≡ rowsBefore s ds (g + 1)
   pub low : from ≤ j
   pub high : j < end
 
 module _ {s : Scheme} {ds : List ℕ} {d blocks : ℕ} {points prefixes : List ℕ} {g P from end j : ℕ} (R : RowAt s ds d blocks points prefixes g P from end j) where
-  own : j < rowsOf s (getD ds g 0)
+  own : j < sentRows s (getD ds g 0)
   own = omega (arith, R .high, R .end-is, before-next s ds g)
 
-  row-inside : j < rowsOf s d
+  row-inside : j < sentRows s d
   row-inside = omega (arith, R .high, R .end-is, group-most (R .input) g (R .group) (R .above))
 
   pub row-below : j < s .rows
@@ -154,7 +154,7 @@ module _ {s : Scheme} {ds : List ℕ} {d blocks : ℕ} {points prefixes : List �
           let same : origin (s .block) (s .z) ds (F .row) (F .degree) ≡ getD places e 0
           = F .is ∙ sym (O .is e (omega (arith, order-of (R .input) .above)) high) in
           rw same at
-          (T (F .row) (F .degree) t (inr (omega (arith, F .past, ap (rowsOf s) row-count, before-next s ds g)))
+          (T (F .row) (F .degree) t (inr (omega (arith, F .past, ap (sentRows s) row-count, before-next s ds g)))
           (F .within) b (F .low) (degree-within (R .input) F))
 
       -- and it adds the row

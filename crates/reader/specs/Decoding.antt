@@ -108,17 +108,17 @@ Solves sizes top q places points basis prefixes s n w w′ =
 -- ---- all rows, in the scheme s with the counts ds
 
 -- P, the rows of a prefix for the count d
-abbrev pub rowsOf : Scheme → ℕ → ℕ
-rowsOf s d = rowsOfCount (s .block) (s .z) d
+abbrev pub sentRows : Scheme → ℕ → ℕ
+sentRows s d = rowsOfCount (s .block) (s .z) d
 
 -- the bytes of d prefixes
 abbrev pub sentBytes : Scheme → ℕ → ℕ → ℕ
-sentBytes s d blocks = d * (rowsOf s d * blocks)
+sentBytes s d blocks = d * (sentRows s d * blocks)
 
 -- the rows of the groups before group g, which is counted from 0
 unfoldable pub rowsBefore : Scheme → List ℕ → ℕ → ℕ
 rowsBefore s ds zero = 0
-rowsBefore s ds (suc g) = rowsOf s (getD ds g 0)
+rowsBefore s ds (suc g) = sentRows s (getD ds g 0)
 
 -- the bytes that d parties send of the rows of group g
 abbrev pub groupBytes : Scheme → List ℕ → ℕ → ℕ → ℕ → ℕ
@@ -136,8 +136,8 @@ pub record Input (s : Scheme) (ds : List ℕ) (d blocks : ℕ) (points prefixes 
 pub record Sent (s : Scheme) (ds : List ℕ) (d blocks : ℕ) (points prefixes B K : List ℕ) : Type 0 where
   pub blocks-are : Bytes (blocks * s .block) B
   pub keys-are : Bytes (blocks * (s .rows * s .z)) K
-  pub rows : (j t a : ℕ) → j < rowsOf s d → t < blocks → a < d
-      → getD prefixes (a * (rowsOf s d * blocks) + (j * blocks + t)) 0
+  pub rows : (j t a : ℕ) → j < sentRows s d → t < blocks → a < d
+      → getD prefixes (a * (sentRows s d * blocks) + (j * blocks + t)) 0
       ≡ eval (getD points a 0) (tabulate (countOf (s .block) (s .z) ds j) (coefficientAt (s .block) (s .rows) (s .z) ds B K t j))
 
 -- said of every B that has these prefixes, if the basis is that of the points
@@ -147,5 +147,5 @@ EachSent s ds d blocks points basis prefixes Says = (B K : List ℕ) → BasisOf
 -- the buffer has B's bytes at all origins of the rows of the groups from g on, as far as d's
 abbrev pub Found : Scheme → List ℕ → ℕ → ℕ → ℕ → List ℕ → List ℕ → Type 0
 Found s ds d blocks g B w =
-    (j e t : ℕ) → rowsBefore s ds g ≤ j → j < rowsOf s d → t < blocks → s .z ≤ e → e < countOf (s .block) (s .z) ds j
+    (j e t : ℕ) → rowsBefore s ds g ≤ j → j < sentRows s d → t < blocks → s .z ≤ e → e < countOf (s .block) (s .z) ds j
     → getD w (t * s .block + origin (s .block) (s .z) ds j e) 0 ≡ getD B (t * s .block + origin (s .block) (s .z) ds j e) 0
