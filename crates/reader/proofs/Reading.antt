@@ -22,7 +22,7 @@ use Rattle.staircase.proofs.Columns.{part-at}
 use Rattle.staircase.proofs.Points.{points-bytes, points-distinct}
 use Rattle.scheme.specs.Readers.{readersRefused}
 use Rattle.staircase.specs.Exactness.{openedString, Gives}
-use Rattle.reader.specs.Decoding.{BasisOf, sentRows, sentBytes, Sent, EachSent}
+use Rattle.reader.specs.Decoding.{BasisOf, sentBytes, Sent, EachSent}
 use Rattle.scheme.proofs.Laws.{readers-rise, parties-distinct}
 use Rattle.staircase.proofs.Sizes.{rows-within}
 use Rattle.staircase.proofs.WholeBlocks.{exact}
