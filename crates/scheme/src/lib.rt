@@ -42,9 +42,9 @@ pub enum Answer {
     Refused(u8),
 }
 
-// Checks a scheme. Refusal 1: n is below 2 or above 16. 2: z is 0, or r + z is n or more. 3: the
-// counts are none or over 8, do not fall strictly, start above n or do not end at n - r. 4: the
-// block length is above 840.
+// Checks a scheme. Refusal 1: n is below 2 or above its limit. 2: z is 0, or r + z is n or more. 3: the
+// counts are none or too many, do not fall strictly, start above n or do not end at n - r. 4: the
+// block length is above its limit.
 pub fn check(n: u8, r: u8, z: u8, counts: &[u8]) -> SchemeAnswer
     ensures { λ a. ⌜ schemeOutcome a ≡ checked n r z (now (counts .entry)) ⌝ }
 {
