@@ -1,5 +1,6 @@
 mod Digits
 mod Ring
+pub mod Polynomials
 mod Inverses
 mod Powers
 mod Shifting

@@ -55,7 +55,7 @@ product-zero : (a : ℕ) → product a 0 ≡ 0
 unfolding product
 product-zero a = refl
 
-product-⊕-left : (a b c : ℕ) → product (a ⊕ b) c ≡ product a c ⊕ product b c
+pub product-⊕-left : (a b c : ℕ) → product (a ⊕ b) c ≡ product a c ⊕ product b c
 unfolding _⊕_
 product-⊕-left a b =
     bin-ind (λ c. product (a ⊕ b) c ≡ product a c ⊕ product b c)
@@ -65,7 +65,7 @@ product-⊕-left a b =
     ∙ interchange (product a (c / 2) * 2) (product b (c / 2) * 2) (a * (c % 2)) (b * (c % 2))
     ∙ sym (ap₂ _⊕_ (product-step a c) (product-step b c)))
 
-product-double-left : (a b : ℕ) → product (a * 2) b ≡ product a b * 2
+pub product-double-left : (a b : ℕ) → product (a * 2) b ≡ product a b * 2
 product-double-left a =
     bin-ind (λ b. product (a * 2) b ≡ product a b * 2) (product-zero (a * 2) ∙ ap (λ x. x * 2) (sym (product-zero a)))
     (λ b ih. product-step (a * 2) b
@@ -79,11 +79,11 @@ product-zero-left =
     bin-ind (λ b. product 0 b ≡ 0) (product-zero 0)
     (λ b ih. product-step 0 b ∙ ap₂ (λ x y. x * 2 ⊕ y) ih (N.zero-mul (b % 2)))
 
-split : (b : ℕ) → b / 2 * 2 ⊕ b % 2 ≡ b
+pub split : (b : ℕ) → b / 2 * 2 ⊕ b % 2 ≡ b
 unfolding _⊕_
 split b = xor-shifted (b / 2) 1 (b % 2) (odd-lt b) ∙ N.div-add-mod' b 2
 
-product-one-left : (b : ℕ) → product 1 b ≡ b
+pub product-one-left : (b : ℕ) → product 1 b ≡ b
 product-one-left =
     bin-ind (λ b. product 1 b ≡ b) (product-zero 1)
     (λ b ih. product-step 1 b ∙ ap₂ (λ x y. x * 2 ⊕ y) ih (N.one-mul (b % 2)) ∙ split b)

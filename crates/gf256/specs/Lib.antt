@@ -1,3 +1,4 @@
 pub mod Byte
+pub mod Polynomials
 pub mod Field
 pub mod Lanes
