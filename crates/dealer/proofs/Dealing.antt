@@ -14,10 +14,10 @@ use Rattle.scheme.specs.Facts.{SchemeIs}
 use Rattle.scheme.specs.Limits.{maxParties, maxBlock, maxMessage}
 use Rattle.scheme.specs.Outcome.{accepted}
 use Rattle.scheme.specs.Check.{blockCount}
-use Rattle.scheme.proofs.Laws.{accepted as accepted-facts, done, pass, pass-within, pass-same, numbered, answer-none, kept, first-none, first-when}
+use Rattle.scheme.proofs.Laws.{accepted as accepted-facts, done, pass, pass-within, pass-same, numbered, answer-none, kept, first-none, first-if}
 use Rattle.family.specs.Message.{padded}
 use Rattle.family.proofs.Shares.{length-shares}
-use Rattle.staircase.specs.Parameters.{Parameters, Accepted, parameters, block, rows, point}
+use Rattle.staircase.specs.Parameters.{Parameters, AcceptedScheme, parameters, block, rows, point}
 use Rattle.staircase.specs.Coefficients.{shareByte}
 use Rattle.staircase.specs.Shares.{staircase, shares}
 use Rattle.staircase.proofs.Bytes.{shares-are}
@@ -28,7 +28,7 @@ use Rattle.staircase.proofs.Sizes.{rows-most, blocks-are, blocks-few, share-len
 
 -- what then holds
 pub record Dealt (p : Parameters) (message keys out : ℕ) : Type 0 where
-  pub good : Accepted p
+  pub good : AcceptedScheme p
   pub short : message ≤ maxMessage
   pub enough : keys ≡ blockCount (block p) message * p .z * rows p
   pub room : out ≡ p .n * blockCount (block p) message * rows p
@@ -37,9 +37,9 @@ pub split-dealt : (p : Parameters) (message keys out : ℕ) → splitRefusal p m
 unfolding splitRefusal
 split-dealt p message keys out e =
     let scheme = first-none _ _ e in
-    let five = first-when _ _ _ (scheme .1) in
-    let eight = first-when _ _ _ (five .1) in
-    let ten = first-when _ _ _ (eight .1) in
+    let five = first-if _ _ _ (scheme .1) in
+    let eight = first-if _ _ _ (five .1) in
+    let ten = first-if _ _ _ (eight .1) in
     record {
       good = scheme .0;
       short = ltb-false maxMessage message (five .0);
@@ -47,7 +47,7 @@ split-dealt p message keys out e =
       room = eqb-true _ _ (not-false _ (ten .0));
     }
 
-pub none-applies : (p : Parameters) → Accepted p → (message keys out : ℕ) → message ≤ maxMessage → keys ≡ blockCount (block p) message * p .z * rows p
+pub none-applies : (p : Parameters) → AcceptedScheme p → (message keys out : ℕ) → message ≤ maxMessage → keys ≡ blockCount (block p) message * p .z * rows p
     → out ≡ p .n * blockCount (block p) message * rows p → splitRefusal p message keys out ≡ 0
 unfolding splitRefusal
 none-applies p good message keys out short enough room = numbered (pass good (pass-within 5 short (pass-same 8 enough (pass-same 10 room done))))

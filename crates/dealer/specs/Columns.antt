@@ -6,9 +6,14 @@ use mathlib.Core.List.{List}
 use mathlib.Core.Logic.{_⊎_}
 use Prim.Native.Nat.{ℕ, _+_, _*_, _≤_, _<_}
 use lib.Dec.{ltb}
-use lib.ListN.{length, getD}
+use lib.ListN.{length, getD, take}
+use Rattle.lists.specs.Table.{tabulate, joined}
+use Rattle.interpolation.specs.RowValue.{valuesOf}
+use Rattle.scheme.specs.declared.Scheme.{Scheme}
 use Rattle.columns.specs.Columns.{strided}
-use Rattle.staircase.specs.Coefficients.{origin}
+use Rattle.staircase.specs.Parameters.{parametersOf, point}
+use Rattle.staircase.specs.Coefficients.{origin, shareByte}
+use Rattle.rows.specs.Sources.{RowOrigins}
 
 -- the coefficient of degree e of row j in 64 blocks from t on: key bytes, or the message bytes at its origin, 0 past their ends
 unfoldable pub column : ℕ → ℕ → ℕ → List ℕ → List ℕ → List ℕ → ℕ → ℕ → ℕ → List ℕ
@@ -20,3 +25,25 @@ pub record Filled (m q many : ℕ) (g : ℕ → ℕ → ℕ) (parts : ℕ) (o w 
   pub long : length w ≡ length o
   pub inside : (a k : ℕ) → a < parts → k < many → getD w (a * m + (q + k)) 0 ≡ g a k
   pub outside : (a i : ℕ) → i < m → (parts ≤ a) ⊎ ((i < q) ⊎ (q + many ≤ i)) → getD w (a * m + i) 0 ≡ getD o (a * m + i) 0
+
+-- `place` is that of the coefficient where this is no key: then r is its column, in a scheme s of any counts
+abbrev pub IsColumn : Scheme → ℕ → List ℕ → List ℕ → ℕ → ℕ → ℕ → List ℕ → Type 0
+IsColumn s place message keys t j e r =
+    (ds : List ℕ) → (s .z ≤ e → place ≡ origin (s .block) (s .z) ds j e) → r ≡ column (s .block) (s .rows) (s .z) ds message keys t j e
+
+-- the places are the origins of row j: then the first d of the columns are the row's
+abbrev pub AreColumns : Scheme → List ℕ → List ℕ → List ℕ → ℕ → ℕ → ℕ → List (List ℕ) → Type 0
+AreColumns s places message keys t j d columns =
+    (ds : List ℕ) → RowOrigins (s .block) (s .z) ds j d places
+    → take d columns ≡ tabulate d (column (s .block) (s .rows) (s .z) ds message keys t j)
+
+-- in each party's share the row's values at its point were written, `many` of them from place q on
+abbrev pub RowFilled : ℕ → ℕ → ℕ → List (List ℕ) → ℕ → List ℕ → List ℕ → List ℕ → Type 0
+RowFilled share q many columns d points o w =
+    Filled share q many (λ a k. getD (valuesOf (getD points a 0) (take d columns)) k 0) (length points) o w
+
+-- the shares of all parties, byte by byte
+abbrev pub filledShares : Scheme → List ℕ → List ℕ → List ℕ → ℕ → List ℕ
+filledShares s ds message keys blocks =
+    joined (s .n)
+    (λ a. tabulate (s .rows * blocks) (shareByte (s .block) (s .rows) (s .z) ds message keys blocks (point (parametersOf s ds) (a + 1))))

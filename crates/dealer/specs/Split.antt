@@ -1,12 +1,14 @@
 -- The splitter: its answer, which only the scheme and the three lengths decide, and its output.
 -- Assumes nothing.
+use mathlib.Core.Path.{_≡_}
 use mathlib.Core.Bool.{cond, not}
 use mathlib.Core.List.{List, [], _∷_}
 use Prim.Native.Nat.{ℕ}
 use lib.Dec.{ltb, eqb}
 use lib.ListN.{length}
 use Rattle.scheme.specs.Limits.{maxMessage}
-use Rattle.scheme.specs.Outcome.{Outcome, when, firstOf, answer}
+use Rattle.scheme.specs.declared.Answer.{Answer}
+use Rattle.scheme.specs.Outcome.{Outcome, numberIf, firstOf, answer, outcome}
 use Rattle.scheme.specs.Check.{refusal}
 use Rattle.staircase.specs.Parameters.{Parameters, blocksOf, keyBytes, shareBytes, outputBytes}
 use Rattle.staircase.specs.Shares.{shares}
@@ -17,9 +19,9 @@ splitRefusal p message keys out =
     let N : ℕ = blocksOf p message in
     firstOf
     (refusal (p .n) (p .r) (p .z) (p .counts)
-    ∷ when 5 (ltb maxMessage message)
-    ∷ when 8 (not (eqb keys (keyBytes p N)))
-    ∷ when 10 (not (eqb out (outputBytes p N)))
+    ∷ numberIf 5 (ltb maxMessage message)
+    ∷ numberIf 8 (not (eqb keys (keyBytes p N)))
+    ∷ numberIf 10 (not (eqb out (outputBytes p N)))
     ∷ [])
 
 -- accepted: the bytes of a share, N × b
@@ -30,3 +32,8 @@ splitAnswer p message keys out = answer (splitRefusal p message keys out) (share
 unfoldable pub splitOutput : Parameters → List ℕ → List ℕ → List ℕ → List ℕ
 splitOutput p message keys before =
     cond (eqb (splitRefusal p (length message) (length keys) (length before)) 0) (shares p message keys) before
+
+-- a call of the splitter, as its contract has it: what it answers, and what an output that held `before` holds after it
+abbrev pub SplitCall : Parameters → List ℕ → List ℕ → List ℕ → Answer → List ℕ → Type 0
+SplitCall p message keys before a after =
+    (outcome a ≡ splitAnswer p (length message) (length keys) (length before)) × (after ≡ splitOutput p message keys before)

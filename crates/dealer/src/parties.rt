@@ -1,11 +1,10 @@
 // The splitter's inner loop: one row of 64 blocks side by side, for all parties.
 ghost use mathlib.Core.Path.{_≡_};
 ghost use Prim.Native.Nat.{_+_, _*_, _≤_};
-ghost use lib.ListN.{length, take, getD};
+ghost use lib.ListN.{length, take};
 ghost use Rattle.gf256.specs.Lanes.{lanes};
 ghost use Rattle.interpolation.specs.Interpolation.{side};
-ghost use Rattle.interpolation.specs.RowValue.{valuesOf};
-ghost use Rattle.dealer.specs.Columns.{Filled};
+ghost use Rattle.dealer.specs.Columns.{RowFilled};
 use gf256::lanes::LANES;
 use interpolation::SIDE;
 
@@ -33,7 +32,7 @@ pub(crate) fn fill_parties(
     out: &mut [u8],
 )
     requires { ⌜ (d ≤ side) × (length (now columns) ≡ side) × (many ≤ lanes) × (q + many ≤ share) × (length (now out) ≡ length (now points) * share) ⌝ }
-    ensures { λ _. ⌜ Filled share q many (λ a k. getD (valuesOf (getD (now (points .entry)) a 0) (take d (now (columns .entry)))) k 0) (length (now (points .entry))) (now (out .entry)) (now (out .exit)) ⌝ }
+    ensures { λ _. ⌜ RowFilled share q many (now (columns .entry)) d (now (points .entry)) (now (out .entry)) (now (out .exit)) ⌝ }
 {
     let mut a = 0;
     while a < points.len() {

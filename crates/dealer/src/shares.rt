@@ -2,17 +2,12 @@
 // the row's coefficients, gathered once for all parties. Where the coefficients of a row stand is found once
 // a row. No branch and no place depends on a byte of the message or of the keys.
 ghost use mathlib.Core.Path.{_≡_};
-ghost use mathlib.Core.List.{List};
 ghost use Prim.Native.Nat.{ℕ, _*_, _+_, _≤_, _<_};
-ghost use lib.ListN.{length, take, getD};
-ghost use Rattle.lists.specs.Table.{tabulate, joined};
+ghost use lib.ListN.{length, getD};
 ghost use Rattle.interpolation.specs.Interpolation.{side};
 ghost use Rattle.scheme.specs.Facts.{SchemeIs};
 ghost use Rattle.scheme.specs.Limits.{maxParties, maxBlock, maxMessage};
-ghost use Rattle.staircase.specs.Parameters.{parameters, point};
-ghost use Rattle.staircase.specs.Coefficients.{origin, shareByte};
-ghost use Rattle.dealer.specs.Columns.{column};
-ghost use Rattle.rows.specs.Sources.{RowOrigins};
+ghost use Rattle.dealer.specs.Columns.{IsColumn, AreColumns, filledShares};
 use crate::parties::fill_parties;
 use gf256::lanes::LANES;
 use interpolation::SIDE;
@@ -31,7 +26,7 @@ fn column_of(
     e: usize,
 ) -> [u8; LANES]
     requires { ⌜ (s .block ≤ maxBlock) × (s .rows ≤ maxBlock) × (s .z ≤ maxParties) × (t ≤ maxMessage) × (j < s .rows) × (e < side) × (s .z ≤ e → place < s .block) ⌝ }
-    ensures { λ r. ⌜ ((ds : List ℕ) → (s .z ≤ e → place ≡ origin (s .block) (s .z) ds j e) → r ≡ column (s .block) (s .rows) (s .z) ds (now (message .entry)) (now (keys .entry)) t j e) ⌝ }
+    ensures { λ r. ⌜ IsColumn s place (now (message .entry)) (now (keys .entry)) t j e r ⌝ }
 {
     let block = s.block;
     let rows = s.rows;
@@ -53,7 +48,7 @@ fn row_columns(
     d: usize,
 ) -> [[u8; LANES]; SIDE]
     requires { ⌜ (s .block ≤ maxBlock) × (s .rows ≤ maxBlock) × (s .z ≤ maxParties) × (t ≤ maxMessage) × (j < s .rows) × (d ≤ side) × (length (now places) ≡ side) × ((e : ℕ) → s .z ≤ e → e < d → getD (now places) e 0 < s .block) ⌝ }
-    ensures { λ r. ⌜ ((ds : List ℕ) → RowOrigins (s .block) (s .z) ds j d (now (places .entry)) → take d r ≡ tabulate d (column (s .block) (s .rows) (s .z) ds (now (message .entry)) (now (keys .entry)) t j)) ⌝ }
+    ensures { λ r. ⌜ AreColumns s (now (places .entry)) (now (message .entry)) (now (keys .entry)) t j d r ⌝ }
 {
     let mut columns = [[0u8; LANES]; SIDE];
     let mut e = 0;
@@ -75,7 +70,7 @@ pub(crate) fn fill_shares(
     out: &mut [u8],
 )
     requires { ⌜ SchemeIs s (s .n) (s .r) (s .z) (now counts) × (blocks ≤ maxMessage) × (length (now out) ≡ s .n * (s .rows * blocks)) ⌝ }
-    ensures { λ _. ⌜ now (out .exit) ≡ joined (s .n) (λ a. tabulate (s .rows * blocks) (shareByte (s .block) (s .rows) (s .z) (now (counts .entry)) (now (message .entry)) (now (keys .entry)) blocks (point (parameters (s .n) (s .r) (s .z) (now (counts .entry))) (a + 1)))) ⌝ }
+    ensures { λ _. ⌜ now (out .exit) ≡ filledShares s (now (counts .entry)) (now (message .entry)) (now (keys .entry)) blocks ⌝ }
 {
     let n = wide(s.n);
     let rows = s.rows;

@@ -36,7 +36,7 @@ pub(crate) fn refused(number: u8) {
 // A call's answer, with a word for what it answers when it is accepted.
 pub(crate) fn answer(text: &[u8], answer: Answer) {
     match answer {
-        Answer::Accepted(value) => number(text, value),
+        Answer::Value(value) => number(text, value),
         Answer::Refused(number) => refused(number),
     }
 }

@@ -1,13 +1,19 @@
 -- The structs that the C boundary answers, field by field: the refusal's number, 0 when accepted, then the values, 0 on a refusal.
 -- Assumes nothing.
+use mathlib.Core.Path.{_≡_}
 use mathlib.Core.List.{List, [], _∷_}
 use Prim.Native.Nat.{ℕ, _*_, _/_, _%_}
-use lib.ListN.{getD}
+use lib.ListN.{length, getD}
 use Rattle.scheme.specs.Outcome.{Outcome}
 use Rattle.lists.specs.Table.{tabulate}
 use Rattle.interpolation.specs.Interpolation.{side}
+use Rattle.staircase.specs.Parameters.{Parameters}
+use Rattle.dealer.specs.Split.{splitAnswer, splitOutput}
+use Rattle.reader.specs.Basis.{basisRefusal, basisOf}
+use Rattle.reader.specs.Reconstruct.{reconstructAnswer, reconstructOutput}
 use Rattle.exports.specs.declared.SharingScheme.{SharingScheme}
 use Rattle.exports.specs.declared.SharingAnswer.{SharingAnswer}
+use Rattle.exports.specs.declared.SharingBasis.{SharingBasis}
 
 abbrev pub schemeFields : SharingScheme → List ℕ
 schemeFields s = s .refusal ∷ s .block ∷ s .rows ∷ []
@@ -26,3 +32,16 @@ valueFields o = o .number ∷ getD (o .values) 0 0 ∷ []
 -- a table of 16 rows of 16 bytes, row after row
 unfoldable pub flattened : List (List ℕ) → List ℕ
 flattened table = tabulate (side * side) (λ k. getD (getD table (k / side) []) (k % side) 0)
+
+-- the calls: the fields of the splitter's answer and its output, those of the opener's, and the number and the weights of a basis
+abbrev pub SplitFields : Parameters → List ℕ → List ℕ → List ℕ → SharingAnswer → List ℕ → Type 0
+SplitFields p message keys before a after =
+    (answerFields a ≡ valueFields (splitAnswer p (length message) (length keys) (length before))) × (after ≡ splitOutput p message keys before)
+
+abbrev pub ReconstructFields : Parameters → ℕ → List ℕ → List ℕ → List ℕ → SharingAnswer → List ℕ → Type 0
+ReconstructFields p message parties prefixes before a after =
+    (answerFields a ≡ valueFields (reconstructAnswer p message parties (length prefixes) (length before)))
+    × (after ≡ reconstructOutput p message parties prefixes before)
+
+abbrev pub BasisFields : Parameters → List ℕ → SharingBasis → Type 0
+BasisFields p parties a = (a .refusal ≡ basisRefusal p parties) × (a .weights ≡ flattened (basisOf p parties))

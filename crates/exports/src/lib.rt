@@ -7,11 +7,8 @@ ghost use Rattle.scheme.specs.Outcome.{outcome, schemeOutcome};
 ghost use Rattle.scheme.specs.Check.{checked};
 ghost use lib.ListN.{length};
 ghost use Rattle.staircase.specs.Parameters.{parameters, defaultParameters};
-ghost use Rattle.dealer.specs.Split.{splitAnswer, splitOutput};
 ghost use Rattle.party.specs.Prefix.{prefixAnswer};
-ghost use Rattle.reader.specs.Basis.{basisRefusal, basisOf};
-ghost use Rattle.reader.specs.Reconstruct.{reconstructAnswer, reconstructOutput};
-ghost use Rattle.exports.specs.Fields.{flattened, schemeFields, checkedFields, answerFields, valueFields};
+ghost use Rattle.exports.specs.Fields.{schemeFields, checkedFields, answerFields, valueFields, flattened, SplitFields, ReconstructFields, BasisFields};
 use interpolation::SIDE;
 use scheme::SchemeAnswer;
 use sharing::Answer;
@@ -94,7 +91,7 @@ fn fields(answer: Answer) -> SharingAnswer
     ensures { λ a. ⌜ answerFields a ≡ valueFields (outcome answer) ⌝ }
 {
     match answer {
-        Answer::Accepted(value) => SharingAnswer {
+        Answer::Value(value) => SharingAnswer {
             refusal: 0,
             value: value as u64,
         },
@@ -115,7 +112,7 @@ pub extern "C" fn sharing_split(
     keys: &[u8],
     out: &mut [u8],
 ) -> SharingAnswer
-    ensures { λ a. ⌜ (answerFields a ≡ valueFields (splitAnswer (parameters n r z (now (counts .entry))) (length (now (message .entry))) (length (now (keys .entry))) (length (now (out .entry))))) × (now (out .exit) ≡ splitOutput (parameters n r z (now (counts .entry))) (now (message .entry)) (now (keys .entry)) (now (out .entry))) ⌝ }
+    ensures { λ a. ⌜ SplitFields (parameters n r z (now (counts .entry))) (now (message .entry)) (now (keys .entry)) (now (out .entry)) a (now (out .exit)) ⌝ }
 {
     fields(sharing::split(n, r, z, counts, message, keys, out))
 }
@@ -126,7 +123,7 @@ pub extern "C" fn sharing_split_default(
     keys: &[u8],
     out: &mut [u8],
 ) -> SharingAnswer
-    ensures { λ a. ⌜ (answerFields a ≡ valueFields (splitAnswer defaultParameters (length (now (message .entry))) (length (now (keys .entry))) (length (now (out .entry))))) × (now (out .exit) ≡ splitOutput defaultParameters (now (message .entry)) (now (keys .entry)) (now (out .entry))) ⌝ }
+    ensures { λ a. ⌜ SplitFields defaultParameters (now (message .entry)) (now (keys .entry)) (now (out .entry)) a (now (out .exit)) ⌝ }
 {
     fields(sharing::split_default(message, keys, out))
 }
@@ -160,7 +157,7 @@ pub extern "C" fn sharing_prefix_default(
 
 #[no_mangle]
 pub extern "C" fn sharing_basis(n: u8, r: u8, z: u8, counts: &[u8], parties: &[u8]) -> SharingBasis
-    ensures { λ a. ⌜ (a .refusal ≡ basisRefusal (parameters n r z (now (counts .entry))) (now (parties .entry))) × (a .weights ≡ flattened (basisOf (parameters n r z (now (counts .entry))) (now (parties .entry)))) ⌝ }
+    ensures { λ a. ⌜ BasisFields (parameters n r z (now (counts .entry))) (now (parties .entry)) a ⌝ }
 {
     let size = fields(sharing::basis_size(n, r, z, counts, parties));
     let weights = in_one_row(sharing::basis(n, r, z, counts, parties));
@@ -172,7 +169,7 @@ pub extern "C" fn sharing_basis(n: u8, r: u8, z: u8, counts: &[u8], parties: &[u
 
 #[no_mangle]
 pub extern "C" fn sharing_basis_default(parties: &[u8]) -> SharingBasis
-    ensures { λ a. ⌜ (a .refusal ≡ basisRefusal defaultParameters (now (parties .entry))) × (a .weights ≡ flattened (basisOf defaultParameters (now (parties .entry)))) ⌝ }
+    ensures { λ a. ⌜ BasisFields defaultParameters (now (parties .entry)) a ⌝ }
 {
     let size = fields(sharing::basis_size_default(parties));
     let weights = in_one_row(sharing::basis_default(parties));
@@ -206,7 +203,7 @@ pub extern "C" fn sharing_reconstruct(
     prefixes: &[u8],
     out: &mut [u8],
 ) -> SharingAnswer
-    ensures { λ a. ⌜ (answerFields a ≡ valueFields (reconstructAnswer (parameters n r z (now (counts .entry))) «message_length» (now (parties .entry)) (length (now (prefixes .entry))) (length (now (out .entry))))) × (now (out .exit) ≡ reconstructOutput (parameters n r z (now (counts .entry))) «message_length» (now (parties .entry)) (now (prefixes .entry)) (now (out .entry))) ⌝ }
+    ensures { λ a. ⌜ ReconstructFields (parameters n r z (now (counts .entry))) «message_length» (now (parties .entry)) (now (prefixes .entry)) (now (out .entry)) a (now (out .exit)) ⌝ }
 {
     fields(sharing::reconstruct(n, r, z, counts, message_length, parties, prefixes, out))
 }
@@ -218,7 +215,7 @@ pub extern "C" fn sharing_reconstruct_default(
     prefixes: &[u8],
     out: &mut [u8],
 ) -> SharingAnswer
-    ensures { λ a. ⌜ (answerFields a ≡ valueFields (reconstructAnswer defaultParameters «message_length» (now (parties .entry)) (length (now (prefixes .entry))) (length (now (out .entry))))) × (now (out .exit) ≡ reconstructOutput defaultParameters «message_length» (now (parties .entry)) (now (prefixes .entry)) (now (out .entry))) ⌝ }
+    ensures { λ a. ⌜ ReconstructFields defaultParameters «message_length» (now (parties .entry)) (now (prefixes .entry)) (now (out .entry)) a (now (out .exit)) ⌝ }
 {
     fields(sharing::reconstruct_default(message_length, parties, prefixes, out))
 }

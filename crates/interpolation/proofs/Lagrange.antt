@@ -19,9 +19,9 @@ use Rattle.lists.proofs.Table.{length-tabulate, getD-tabulate, tabulate-is}
 use Rattle.lists.proofs.Without.{length-without, each-without, without-other, without-distinct}
 use Rattle.gf256.specs.Byte.{_⊕_, _⊗_, inverse}
 use Rattle.gf256.proofs.Laws.{zero-⊕, ⊕-zero, ⊗-zero, ⊗-one, ⊗-comm, ⊗-inverse}
-use Rattle.interpolation.specs.Polynomial.{eval, values, plus, scale, product, sumTo}
+use Rattle.interpolation.specs.Polynomial.{eval, values, plus, scale, vanishing, sumTo}
 use Rattle.interpolation.specs.Interpolation.{unit, basis}
-use Rattle.interpolation.proofs.Polynomial.{eval-plus, eval-scale, eval-zeros, eval-byte, plus-at, plus-byte, plus-length, scale-at, scale-byte, scale-length, product-byte, product-length, product-zero, product-nonzero}
+use Rattle.interpolation.proofs.Polynomial.{eval-plus, eval-scale, eval-zeros, eval-byte, plus-at, plus-byte, plus-length, scale-at, scale-byte, scale-length, vanishing-byte, vanishing-length, vanishing-zero, vanishing-nonzero}
 use Rattle.interpolation.proofs.Unique.{unique}
 use Rattle.interpolation.proofs.Through.{through-byte, through-length, through-values}
 
@@ -73,14 +73,14 @@ module _ (ps : List ℕ) (bytes : Each Byte ps) (apart : Distinct ps) where
       unique ps cs (basis ps i) bytes apart b (basis-byte ps i) (n ∙ sym (basis-length ps i)) (omega arith) (h ∙ sym (basis-rule i))
 
   -- the product over the other points, divided by its value at the point
-  pub basis-formula : (i : ℕ) → i < length ps → basis ps i ≡ scale (inverse (eval (getD ps i 0) (product (without i ps)))) (product (without i ps))
+  pub basis-formula : (i : ℕ) → i < length ps → basis ps i ≡ scale (inverse (eval (getD ps i 0) (vanishing (without i ps)))) (vanishing (without i ps))
   basis-formula i h =
       sym
-      (basis-unique i (scale k others) (scale-length k others ∙ product-length (without i ps) ∙ length-without ps i h) (scale-byte k others)
+      (basis-unique i (scale k others) (scale-length k others ∙ vanishing-length (without i ps) ∙ length-without ps i h) (scale-byte k others)
       (unit-values ps (scale k others) i (λ j b. eval-scale (getD ps j 0) k others ∙ at j b (eqb j i) refl)))
     where
       others : List ℕ
-      others = product (without i ps)
+      others = vanishing (without i ps)
 
       w : ℕ
       w = eval (getD ps i 0) others
@@ -90,16 +90,16 @@ module _ (ps : List ℕ) (bytes : Each Byte ps) (apart : Distinct ps) where
 
       own : k ⊗ w ≡ 1
       own =
-          let hw : Byte w = eval-byte (getD ps i 0) others (product-byte (without i ps)) in
+          let hw : Byte w = eval-byte (getD ps i 0) others (vanishing-byte (without i ps)) in
           let nw : w ≢ 0 =
-          product-nonzero (getD ps i 0) (each-getD Byte ps i 0 h bytes) (without i ps) (each-without Byte ps i bytes)
+          vanishing-nonzero (getD ps i 0) (each-getD Byte ps i 0 h bytes) (without i ps) (each-without Byte ps i bytes)
           (without-distinct ps i h apart) in
           ⊗-comm k w ∙ ⊗-inverse w (omega arith) hw
 
       at : (j : ℕ) → j < length ps → (t : Bool) → eqb j i ≡ t → k ⊗ eval (getD ps j 0) others ≡ cond t 1 0
       at j b true e = ap (λ (n : ℕ). k ⊗ eval (getD ps n 0) others) (eqb-true j i e) ∙ own
       at j b false e =
-          ap (_⊗_ k) (without-other (λ x. eval x others ≡ 0) ps i j 0 b (eqb-false j i e) (product-zero (without i ps))) ∙ ⊗-zero k
+          ap (_⊗_ k) (without-other (λ x. eval x others ≡ 0) ps i j 0 b (eqb-false j i e) (vanishing-zero (without i ps))) ∙ ⊗-zero k
 
 -- ---- sums
 

@@ -13,7 +13,7 @@ use Rattle.lists.specs.Table.{tabulate}
 use Rattle.lists.proofs.Table.{length-tabulate}
 use Rattle.gf256.specs.Byte.{_⊕_, _⊗_, power}
 use Rattle.gf256.proofs.Laws.{⊕-assoc, ⊕-left-comm, zero-⊕, ⊕-zero, ⊕-self, ⊕-equal, ⊕-byte, ⊗-assoc, ⊗-comm, ⊗-left-comm, ⊗-⊕, ⊕-⊗, ⊗-zero, zero-⊗, one-⊗, ⊗-byte, no-zero-divisors}
-use Rattle.interpolation.specs.Polynomial.{next, eval, plus, scale, linear, product, sumTo}
+use Rattle.interpolation.specs.Polynomial.{next, eval, plus, scale, linear, vanishing, sumTo}
 
 -- ---- values
 
@@ -136,41 +136,41 @@ linear-length p low (c ∷ cs) = ap suc (linear-length p c cs)
 
 -- ---- the product of x + p over the points p
 
-pub product-byte : (ps : List ℕ) → Each Byte (product ps)
-unfolding product
-product-byte [] = (lit< tt, tt)
-product-byte (p ∷ ps) = linear-byte p 0 (product ps) (lit< tt) (product-byte ps)
+pub vanishing-byte : (ps : List ℕ) → Each Byte (vanishing ps)
+unfolding vanishing
+vanishing-byte [] = (lit< tt, tt)
+vanishing-byte (p ∷ ps) = linear-byte p 0 (vanishing ps) (lit< tt) (vanishing-byte ps)
 
-pub product-length : (ps : List ℕ) → length (product ps) ≡ suc (length ps)
-unfolding product
-product-length [] = refl
-product-length (p ∷ ps) = linear-length p 0 (product ps) ∙ ap suc (product-length ps)
+pub vanishing-length : (ps : List ℕ) → length (vanishing ps) ≡ suc (length ps)
+unfolding vanishing
+vanishing-length [] = refl
+vanishing-length (p ∷ ps) = linear-length p 0 (vanishing ps) ∙ ap suc (vanishing-length ps)
 
-pub product-next : (x p : ℕ) (ps : List ℕ) → eval x (product (p ∷ ps)) ≡ (x ⊕ p) ⊗ eval x (product ps)
-unfolding product
-product-next x p ps = eval-linear x p 0 (product ps) ∙ zero-⊕ _
+pub vanishing-next : (x p : ℕ) (ps : List ℕ) → eval x (vanishing (p ∷ ps)) ≡ (x ⊕ p) ⊗ eval x (vanishing ps)
+unfolding vanishing
+vanishing-next x p ps = eval-linear x p 0 (vanishing ps) ∙ zero-⊕ _
 
 -- it is 0 at each of its points
-pub product-zero : (ps : List ℕ) → Each (λ x. eval x (product ps) ≡ 0) ps
-product-zero [] = tt
-product-zero (p ∷ ps) =
-    (product-next p p ps ∙ ap (λ (t : ℕ). t ⊗ eval p (product ps)) (⊕-self p) ∙ zero-⊗ (eval p (product ps)), more ps (product-zero ps))
+pub vanishing-zero : (ps : List ℕ) → Each (λ x. eval x (vanishing ps) ≡ 0) ps
+vanishing-zero [] = tt
+vanishing-zero (p ∷ ps) =
+    (vanishing-next p p ps ∙ ap (λ (t : ℕ). t ⊗ eval p (vanishing ps)) (⊕-self p) ∙ zero-⊗ (eval p (vanishing ps)), more ps (vanishing-zero ps))
   where
-    more : (xs : List ℕ) → Each (λ x. eval x (product ps) ≡ 0) xs → Each (λ x. eval x (product (p ∷ ps)) ≡ 0) xs
+    more : (xs : List ℕ) → Each (λ x. eval x (vanishing ps) ≡ 0) xs → Each (λ x. eval x (vanishing (p ∷ ps)) ≡ 0) xs
     more [] h = tt
-    more (x ∷ xs) h = (product-next x p ps ∙ ap (_⊗_ (x ⊕ p)) (h .0) ∙ ⊗-zero (x ⊕ p), more xs (h .1))
+    more (x ∷ xs) h = (vanishing-next x p ps ∙ ap (_⊗_ (x ⊕ p)) (h .0) ∙ ⊗-zero (x ⊕ p), more xs (h .1))
 
 -- and at no other byte
-pub product-nonzero : (x : ℕ) → Byte x → (ps : List ℕ) → Each Byte ps → Each (λ p. x ≢ p) ps → eval x (product ps) ≢ 0
-unfolding next eval product
-product-nonzero x hx [] b n e =
+pub vanishing-nonzero : (x : ℕ) → Byte x → (ps : List ℕ) → Each Byte ps → Each (λ p. x ≢ p) ps → eval x (vanishing ps) ≢ 0
+unfolding next eval vanishing
+vanishing-nonzero x hx [] b n e =
     let one : _≡_ {A = ℕ} 1 0 = sym (⊕-zero 1) ∙ ap (_⊕_ 1) (sym (⊗-zero x)) ∙ e in
     omega arith
-product-nonzero x hx (p ∷ ps) b n e =
+vanishing-nonzero x hx (p ∷ ps) b n e =
     split
-    (no-zero-divisors (x ⊕ p) (eval x (product ps)) (⊕-byte x p hx (b .0)) (eval-byte x (product ps) (product-byte ps)) (sym (product-next x p ps) ∙ e))
-    (product-nonzero x hx ps (b .1) (n .1))
+    (no-zero-divisors (x ⊕ p) (eval x (vanishing ps)) (⊕-byte x p hx (b .0)) (eval-byte x (vanishing ps) (vanishing-byte ps)) (sym (vanishing-next x p ps) ∙ e))
+    (vanishing-nonzero x hx ps (b .1) (n .1))
   where
-    split : (x ⊕ p ≡ 0) ⊎ (eval x (product ps) ≡ 0) → eval x (product ps) ≢ 0 → ⊥
+    split : (x ⊕ p ≡ 0) ⊎ (eval x (vanishing ps) ≡ 0) → eval x (vanishing ps) ≢ 0 → ⊥
     split (inl z) rest = n .0 (⊕-equal x p z)
     split (inr z) rest = rest z

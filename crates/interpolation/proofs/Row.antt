@@ -17,9 +17,9 @@ use Rattle.lists.proofs.Table.{tabulate-is}
 use Rattle.lists.proofs.WithoutFrom.{withoutFrom, from-front, from-end, from-here, from-next}
 use Rattle.gf256.specs.Byte.{_⊕_, _⊗_, inverse}
 use Rattle.gf256.proofs.Laws.{⊕-zero, ⊗-zero}
-use Rattle.interpolation.specs.Polynomial.{next, eval, scale, linear, product}
+use Rattle.interpolation.specs.Polynomial.{next, eval, scale, linear, vanishing}
 use Rattle.interpolation.specs.Interpolation.{side, weight}
-use Rattle.interpolation.proofs.Polynomial.{scale-at, scale-length, linear-length, product-next}
+use Rattle.interpolation.proofs.Polynomial.{scale-at, scale-length, linear-length, vanishing-next}
 use Rattle.interpolation.proofs.Lagrange.{basis-formula}
 use Rattle.interpolation.proofs.Table.{linear-at}
 use Rattle.interpolation.proofs.Weights.{weight-within}
@@ -27,8 +27,8 @@ use Rattle.interpolation.proofs.Weights.{weight-within}
 pub record Others (ps : List ℕ) (i j : ℕ) (poly : List ℕ) (value : ℕ) : Type 0 where
   pub within : j ≤ length ps
   pub long : length poly ≡ side
-  pub is : (e : ℕ) → e < side → getD poly e 0 ≡ getD (product (withoutFrom i j ps)) e 0
-  pub at-own : value ≡ eval (getD ps i 0) (product (withoutFrom i j ps))
+  pub is : (e : ℕ) → e < side → getD poly e 0 ≡ getD (vanishing (withoutFrom i j ps)) e 0
+  pub at-own : value ≡ eval (getD ps i 0) (vanishing (withoutFrom i j ps))
 
 -- no point passed: the polynomial 1
 one-at : (n e : ℕ) → getD {A = ℕ} (1 ∷ replicate n 0) e 0 ≡ getD (1 ∷ []) e 0
@@ -41,7 +41,7 @@ one-value x = sym (ap (_⊕_ 1) (⊗-zero x) ∙ ⊕-zero 1)
 
 module _ (ps : List ℕ) (i : ℕ) where
   pub others-none : i < length ps → Others ps i (length ps) (set (replicate side 0) 0 1) 1
-  unfolding product
+  unfolding vanishing
   others-none h =
       record {
         within = omega arith;
@@ -59,7 +59,7 @@ module _ (ps : List ℕ) (i : ℕ) where
   -- or another point's
   pub others-next : (j k : ℕ) (poly longer : List ℕ) (value more : ℕ) → k ≡ j + 1 → j ≢ i → Others ps i k poly value
       → longer ≡ take side (linear (getD ps j 0) 0 poly) → more ≡ (getD ps i 0 ⊕ getD ps j 0) ⊗ value → Others ps i j longer more
-  unfolding product
+  unfolding vanishing
   others-next j k poly longer value more e n o el em =
       let s : withoutFrom i j ps ≡ getD ps j 0 ∷ withoutFrom i k ps = from-next ps i j k 0 e (omega (arith, o .within)) n in
       record {
@@ -68,8 +68,8 @@ module _ (ps : List ℕ) (i : ℕ) where
         is = λ d l.
             rw s
             (ap (λ (w : List ℕ). getD w d 0) el ∙ getD-take side (linear (getD ps j 0) 0 poly) d 0 l
-            ∙ linear-same (getD ps j 0) poly (product (withoutFrom i k ps)) d l (o .is));
-        at-own = rw s (em ∙ ap (_⊗_ (getD ps i 0 ⊕ getD ps j 0)) (o .at-own) ∙ sym (product-next (getD ps i 0) (getD ps j 0) (withoutFrom i k ps)));
+            ∙ linear-same (getD ps j 0) poly (vanishing (withoutFrom i k ps)) d l (o .is));
+        at-own = rw s (em ∙ ap (_⊗_ (getD ps i 0 ⊕ getD ps j 0)) (o .at-own) ∙ sym (vanishing-next (getD ps i 0) (getD ps j 0) (withoutFrom i k ps)));
       }
     where
       lower : (cs ds : List ℕ) (d : ℕ) → d < side → ((e : ℕ) → e < side → getD cs e 0 ≡ getD ds e 0) → getD (0 ∷ cs) d 0 ≡ getD (0 ∷ ds) d 0
@@ -92,4 +92,4 @@ module _ (ps : List ℕ) (i : ℕ) where
       ∙ sym
       (weight-within ps i e h m d
       ∙ ap (λ (w : List ℕ). getD w e 0) (basis-formula ps bytes (distinct-true ps d) i h)
-      ∙ scale-at (inverse (eval (getD ps i 0) (product (without i ps)))) (product (without i ps)) e))
+      ∙ scale-at (inverse (eval (getD ps i 0) (vanishing (without i ps)))) (vanishing (without i ps)) e))

@@ -13,9 +13,9 @@ use Rattle.lists.specs.Each.{Each, Distinct, Byte}
 use Rattle.lists.proofs.Each.{each-append, each-replicate}
 use Rattle.gf256.specs.Byte.{_⊕_, _⊗_, inverse}
 use Rattle.gf256.proofs.Laws.{⊕-comm, ⊕-zero, ⊕-twice, ⊕-byte, ⊗-assoc, ⊗-comm, ⊗-one, ⊗-zero, ⊗-inverse}
-use Rattle.interpolation.specs.Polynomial.{eval, values, plus, scale, product}
+use Rattle.interpolation.specs.Polynomial.{eval, values, plus, scale, vanishing}
 use Rattle.interpolation.specs.Interpolation.{through, fitted, Interpolation}
-use Rattle.interpolation.proofs.Polynomial.{eval-plus, eval-scale, eval-append-zeros, eval-byte, plus-byte, plus-length-longer, scale-byte, scale-length, product-byte, product-length, product-zero, product-nonzero}
+use Rattle.interpolation.proofs.Polynomial.{eval-plus, eval-scale, eval-append-zeros, eval-byte, plus-byte, plus-length-longer, scale-byte, scale-length, vanishing-byte, vanishing-length, vanishing-zero, vanishing-nonzero}
 use Rattle.interpolation.proofs.Unique.{unique}
 
 -- ---- through
@@ -26,10 +26,10 @@ through-byte [] vs = tt
 through-byte (p ∷ ps) vs = plus-byte (through ps (drop 1 vs)) (scale _ _) (through-byte ps (drop 1 vs)) (scale-byte _ _)
 
 -- a multiple of the product over the points makes a polynomial one coefficient longer
-lengthened : (cs : List ℕ) (k : ℕ) (ps : List ℕ) → length cs ≡ length ps → length (plus cs (scale k (product ps))) ≡ suc (length ps)
+lengthened : (cs : List ℕ) (k : ℕ) (ps : List ℕ) → length cs ≡ length ps → length (plus cs (scale k (vanishing ps))) ≡ suc (length ps)
 lengthened cs k ps n =
-    let l : length (scale k (product ps)) ≡ suc (length ps) = scale-length k (product ps) ∙ product-length ps in
-    plus-length-longer cs (scale k (product ps)) (omega arith) ∙ l
+    let l : length (scale k (vanishing ps)) ≡ suc (length ps) = scale-length k (vanishing ps) ∙ vanishing-length ps in
+    plus-length-longer cs (scale k (vanishing ps)) (omega arith) ∙ l
 
 pub through-length : (ps vs : List ℕ) → length (through ps vs) ≡ length ps
 unfolding through
@@ -38,37 +38,37 @@ through-length (p ∷ ps) vs = lengthened _ _ _ (through-length ps (drop 1 vs))
 
 through-next : (x p : ℕ) (ps vs : List ℕ)
     → eval x (through (p ∷ ps) vs)
-    ≡ eval x (through ps (drop 1 vs)) ⊕ (getD vs 0 0 ⊕ eval p (through ps (drop 1 vs))) ⊗ inverse (eval p (product ps)) ⊗ eval x (product ps)
+    ≡ eval x (through ps (drop 1 vs)) ⊕ (getD vs 0 0 ⊕ eval p (through ps (drop 1 vs))) ⊗ inverse (eval p (vanishing ps)) ⊗ eval x (vanishing ps)
 unfolding through
 through-next x p ps vs =
     let others : List ℕ = through ps (drop 1 vs) in
-    let k : ℕ = (getD vs 0 0 ⊕ eval p others) ⊗ inverse (eval p (product ps)) in
-    eval-plus x others (scale k (product ps)) ∙ ap (_⊕_ (eval x others)) (eval-scale x k (product ps))
+    let k : ℕ = (getD vs 0 0 ⊕ eval p others) ⊗ inverse (eval p (vanishing ps)) in
+    eval-plus x others (scale k (vanishing ps)) ∙ ap (_⊕_ (eval x others)) (eval-scale x k (vanishing ps))
 
 pub through-values : (ps vs : List ℕ) → Each Byte ps → Distinct ps → length vs ≡ length ps → Each Byte vs → values ps (through ps vs) ≡ vs
 through-values [] [] b d n h = refl
 through-values [] (v ∷ vs) b d n h = absurd (suc-ne-zero (length vs) n)
 through-values (p ∷ ps) [] b d n h = absurd (suc-ne-zero (length ps) (sym n))
-through-values (p ∷ ps) (v ∷ vs) b d n h = ap₂ _∷_ own (others ps (product-zero ps) ∙ through-values ps vs (b .1) (d .1) (suc-inj n) (h .1))
+through-values (p ∷ ps) (v ∷ vs) b d n h = ap₂ _∷_ own (others ps (vanishing-zero ps) ∙ through-values ps vs (b .1) (d .1) (suc-inj n) (h .1))
   where
     q : List ℕ
     q = through ps vs
 
     w : ℕ
-    w = eval p (product ps)
+    w = eval p (vanishing ps)
 
     own : eval p (through (p ∷ ps) (v ∷ vs)) ≡ v
     own =
         let hq : Byte (eval p q) = eval-byte p q (through-byte ps vs) in
-        let hw : Byte w = eval-byte p (product ps) (product-byte ps) in
-        let nw : w ≢ 0 = product-nonzero p (b .0) ps (b .1) (d .0) in
+        let hw : Byte w = eval-byte p (vanishing ps) (vanishing-byte ps) in
+        let nw : w ≢ 0 = vanishing-nonzero p (b .0) ps (b .1) (d .0) in
         let u : inverse w ⊗ w ≡ 1 = ⊗-comm (inverse w) w ∙ ⊗-inverse w (omega arith) hw in
         through-next p p ps (v ∷ vs)
         ∙ ap (_⊕_ (eval p q))
         (⊗-assoc (v ⊕ eval p q) (inverse w) w ∙ ap (_⊗_ (v ⊕ eval p q)) u ∙ ⊗-one (v ⊕ eval p q) (⊕-byte v (eval p q) (h .0) hq) ∙ ⊕-comm v (eval p q))
         ∙ ⊕-twice (eval p q) v
 
-    others : (xs : List ℕ) → Each (λ x. eval x (product ps) ≡ 0) xs → map (λ x. eval x (through (p ∷ ps) (v ∷ vs))) xs ≡ map (λ x. eval x q) xs
+    others : (xs : List ℕ) → Each (λ x. eval x (vanishing ps) ≡ 0) xs → map (λ x. eval x (through (p ∷ ps) (v ∷ vs))) xs ≡ map (λ x. eval x q) xs
     others [] z = refl
     others (x ∷ xs) z =
         ap₂ _∷_

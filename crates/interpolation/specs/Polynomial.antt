@@ -40,9 +40,9 @@ linear p low [] = low ∷ []
 linear p low (c ∷ cs) = (low ⊕ p ⊗ c) ∷ linear p c cs
 
 -- the product of x + p over the points p
-unfoldable pub product : List ℕ → List ℕ
-product [] = 1 ∷ []
-product (p ∷ ps) = linear p 0 (product ps)
+unfoldable pub vanishing : List ℕ → List ℕ
+vanishing [] = 1 ∷ []
+vanishing (p ∷ ps) = linear p 0 (vanishing ps)
 
 -- f 0 + f 1 + .. + f (n - 1)
 unfoldable pub sumTo : ℕ → (ℕ → ℕ) → ℕ

@@ -12,14 +12,14 @@ use borrow.Author.Tests.{ltb-false, eqb-true, not-false}
 use Rattle.lists.specs.Each.{occurs}
 use Rattle.scheme.specs.declared.Scheme.{Scheme}
 use Rattle.scheme.specs.declared.Answer.{Answer}
-use Rattle.scheme.specs.declared.Answer.the-variants.{Accepted as Answered, Refused}
+use Rattle.scheme.specs.declared.Answer.the-variants.{Value, Refused}
 use Rattle.scheme.specs.Facts.{SchemeIs}
 use Rattle.scheme.specs.Limits.{maxMessage}
 use Rattle.scheme.specs.Outcome.{outcome}
 use Rattle.scheme.specs.Check.{rowsOfCount, blockCount}
-use Rattle.staircase.specs.Parameters.{Parameters, Accepted, block, rows}
+use Rattle.staircase.specs.Parameters.{Parameters, AcceptedScheme, block, rows}
 use Rattle.party.specs.Prefix.{prefixRefusal, prefixLength, prefixAnswer, prefixOf}
-use Rattle.scheme.proofs.Laws.{first-none, first-when, kept, told-refused, told-accepted}
+use Rattle.scheme.proofs.Laws.{first-none, first-if, kept, told-refused, told-accepted}
 use Rattle.staircase.proofs.Sizes.{rows-within, blocks-are}
 
 -- the code's P × N: s is what the check answers, N the blocks of the message and P the rows of d
@@ -32,7 +32,7 @@ prefix-length-is p s is message d N P N-is P-is = rw (P-is, blocks-are p s is me
 
 -- what holds where no refusal applies
 pub record Handed (p : Parameters) (message d share : ℕ) : Type 0 where
-  pub good : Accepted p
+  pub good : AcceptedScheme p
   pub short : message ≤ maxMessage
   pub count : occurs d (p .counts) ≡ true
   pub long : share ≡ blockCount (block p) message * rows p
@@ -41,9 +41,9 @@ pub prefix-handed : (p : Parameters) (message d share : ℕ) → prefixRefusal p
 unfolding prefixRefusal
 prefix-handed p message d share e =
     let scheme = first-none _ _ e in
-    let five = first-when _ _ _ (scheme .1) in
-    let six = first-when _ _ _ (five .1) in
-    let nine = first-when _ _ _ (six .1) in
+    let five = first-if _ _ _ (scheme .1) in
+    let six = first-if _ _ _ (five .1) in
+    let nine = first-if _ _ _ (six .1) in
     record {
       good = scheme .0;
       short = ltb-false maxMessage message (five .0);
@@ -72,7 +72,7 @@ module _ (p : Parameters) (message d : ℕ) (share : List ℕ) where
     unfolding prefixAnswer prefixOf
     part-none told = kept _ (told-refused a _ _ e told)
 
-    module _ (bytes : ℕ) (told : a ≡ Answered bytes) where
+    module _ (bytes : ℕ) (told : a ≡ Value bytes) where
       passed : (prefixRefusal p message d (length share) ≡ 0) × (bytes ≡ prefixLength p message d)
       unfolding prefixAnswer
       passed = told-accepted a _ _ e told

@@ -7,7 +7,7 @@ use lib.Dec.{ltb, eqb}
 use lib.ListN.{length, take}
 use Rattle.lists.specs.Each.{occurs}
 use Rattle.scheme.specs.Limits.{maxMessage}
-use Rattle.scheme.specs.Outcome.{Outcome, when, firstOf, answer}
+use Rattle.scheme.specs.Outcome.{Outcome, numberIf, firstOf, answer}
 use Rattle.scheme.specs.Check.{refusal}
 use Rattle.staircase.specs.Parameters.{Parameters, prefixRows, blocksOf, shareBytes}
 
@@ -17,9 +17,9 @@ prefixRefusal p message d share =
     let N : ℕ = blocksOf p message in
     firstOf
     (refusal (p .n) (p .r) (p .z) (p .counts)
-    ∷ when 5 (ltb maxMessage message)
-    ∷ when 6 (not (occurs d (p .counts)))
-    ∷ when 9 (not (eqb share (shareBytes p N)))
+    ∷ numberIf 5 (ltb maxMessage message)
+    ∷ numberIf 6 (not (occurs d (p .counts)))
+    ∷ numberIf 9 (not (eqb share (shareBytes p N)))
     ∷ [])
 
 -- the bytes of the prefix, P × N

@@ -37,7 +37,7 @@ pub fn prefix_length(
     if share.len() != blocks * s.rows {
         return Answer::Refused(9);
     }
-    Answer::Accepted(scheme::rows_of_count(s.block, z, d) * blocks)
+    Answer::Value(scheme::rows_of_count(s.block, z, d) * blocks)
 }
 
 // The prefix itself: the beginning of the lent share, empty on a refusal.
@@ -53,7 +53,7 @@ pub fn prefix<'a>(
     ensures { λ part. ⌜ (now part ≡ prefixOf (parameters n r z (now (counts .entry))) «message_length» d (now (share .entry))) × (part .ptr ≡ share .entry .ptr) ⌝ }
 {
     let answer = prefix_length(n, r, z, counts, message_length, d, share);
-    let Answer::Accepted(bytes) = answer else {
+    let Answer::Value(bytes) = answer else {
         return &share[..0];
     };
     &share[..bytes]

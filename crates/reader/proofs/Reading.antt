@@ -21,7 +21,7 @@ use Rattle.staircase.specs.Shares.{staircase}
 use Rattle.staircase.proofs.Columns.{part-at}
 use Rattle.staircase.proofs.Points.{points-bytes, points-distinct}
 use Rattle.scheme.specs.Readers.{readersRefused}
-use Rattle.staircase.specs.Exactness.{openedString, Gives}
+use Rattle.staircase.specs.Exactness.{openedString, GivesPrefixes}
 use Rattle.reader.specs.Decoding.{BasisOf, sentBytes, Sent, EachSent}
 use Rattle.scheme.proofs.Laws.{readers-rise, parties-distinct}
 use Rattle.staircase.proofs.Sizes.{rows-within}
@@ -55,7 +55,7 @@ module _ (s : Scheme) (ds : List ℕ) (S : SchemeIs s (s .n) (s .r) (s .z) ds) (
       }
 
   -- N whole blocks under keys that give these prefixes
-  sent-by : (prefixes B K : List ℕ) → Bytes (N * block p) B → Bytes (N * (rows p * s .z)) K → Gives p parties N B K prefixes
+  sent-by : (prefixes B K : List ℕ) → Bytes (N * block p) B → Bytes (N * (rows p * s .z)) K → GivesPrefixes p parties N B K prefixes
       → Sent s ds d N points-of prefixes B K
   unfolding readings staircase
   sent-by prefixes B K whole enough G =

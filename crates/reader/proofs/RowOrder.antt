@@ -20,7 +20,7 @@ use Rattle.staircase.specs.Coefficients.{groupOf, countOf, origin, coefficientA
 use Rattle.staircase.proofs.Groups.{rows-most, group-is}
 use Rattle.rows.specs.Sources.{RowOrigins}
 use Rattle.reader.specs.declared.decoding.Sizes.{Sizes}
-use Rattle.reader.specs.Decoding.{SizesFit, RowFits, RowOf, Holds, Solved, Solves, sentRows, rowsBefore, Input, Sent, EachSent, Found}
+use Rattle.reader.specs.Decoding.{SizesFit, RowFits, RowOf, HasPlaces, Solved, Solves, sentRows, rowsBefore, Input, Sent, EachSent, Found}
 use Rattle.reader.proofs.LaterRows.{before-some, before-next, A, order-of, degree-within, count-high, group-most}
 
 -- the coefficients of blocks and keys that are bytes
@@ -148,7 +148,7 @@ module _ {s : Scheme} {ds : List ℕ} {d blocks : ℕ} {points prefixes : List �
 
     module _ (B w : List ℕ) (T : Took s ds d blocks g j B w) where
       -- what the row's loop needs is in the buffer
-      row-known : Holds 0 blocks (s .block) d (getD ds g 0) places B w
+      row-known : HasPlaces 0 blocks (s .block) d (getD ds g 0) places B w
       row-known t e a b low high =
           let F = order-of (R .input) .again j e row-inside low (rw (← row-count) high) in
           let same : origin (s .block) (s .z) ds (F .row) (F .degree) ≡ getD places e 0

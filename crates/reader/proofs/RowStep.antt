@@ -18,7 +18,7 @@ use Rattle.interpolation.specs.Interpolation.{side, basis}
 use Rattle.interpolation.proofs.Laws.{above-is, above-none, lower-value, sumTo-same, interpolate-back, weight-within, table-at}
 use Rattle.columns.proofs.Laws.{strided-at}
 use Rattle.reader.specs.declared.decoding.Sizes.{Sizes}
-use Rattle.reader.specs.Decoding.{combined, KnownColumns, Rests, SizesFit, RowFits, BasisOf, RowOf, Holds}
+use Rattle.reader.specs.Decoding.{combined, KnownColumns, Rests, SizesFit, RowFits, BasisOf, RowOf, HasPlaces}
 use Rattle.reader.proofs.Readings.{combined-at}
 
 -- ---- one block
@@ -46,7 +46,7 @@ module _ {sizes : Sizes} {top high q t many : ℕ} {points prefixes places work 
     (S : SizesFit sizes points prefixes) (F : RowFits sizes top q places) (few : many ≤ lanes) (inn : t + many ≤ sizes .blocks)
     (K : KnownColumns work places (sizes .d) top t (sizes .block) columns) (some : ((sizes .d < top) × (high ≡ top)) ⊎ ((top ≤ sizes .d) × (high ≡ 0)))
     (G : Rests prefixes points columns high (sizes .prefix) (q + t) many (sizes .d) rests)
-    (I : BasisOf points w) (R : RowOf sizes top q places points prefixes B) (H : Holds t (t + many) (sizes .block) (sizes .d) top places B work) where
+    (I : BasisOf points w) (R : RowOf sizes top q places points prefixes B) (H : HasPlaces t (t + many) (sizes .block) (sizes .d) top places B work) where
   -- entry k of the known columns is the upper part of the row of block t + k
   known-entry : (k : ℕ) → k < many → map (λ column. getD column k 0) (take top columns) ≡ above (sizes .d) (R .row (t + k))
   known-entry k hk =

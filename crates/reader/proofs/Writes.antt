@@ -12,7 +12,7 @@ use lib.ListN.{length, getD, set, length-set}
 use lib.Seq.{getD-set-same, getD-set-other}
 use Rattle.lists.proofs.Joined.{place-on}
 use Rattle.lists.proofs.Tests.{lt-or-le}
-use Rattle.reader.specs.Decoding.{Wrote, Scattered, Solved}
+use Rattle.reader.specs.Decoding.{WroteFrom, Scattered, Solved}
 
 -- a byte of B is written
 set-kept : (B w : List ℕ) (i v : ℕ) → i < length w → v ≡ getD B i 0
@@ -28,11 +28,11 @@ set-kept B w i v h e k = ⊎-elim here (other (ℕ-discrete k i))
 
 -- ---- a column
 
-wrote-none : (B w : List ℕ) (place : ℕ → ℕ) → Wrote B w w 0 place
+wrote-none : (B w : List ℕ) (place : ℕ → ℕ) → WroteFrom B w w 0 place
 wrote-none B w place = record { long = refl; still = λ k h. h; new = λ k h. absurd (not-suc-le-zero h) }
 
-wrote-more : {B w w′ : List ℕ} {n : ℕ} {place : ℕ → ℕ} (i v : ℕ) → Wrote B w w′ n place → i ≡ place n → i < length w → v ≡ getD B (place n) 0
-    → Wrote B w (set w′ i v) (n + 1) place
+wrote-more : {B w w′ : List ℕ} {n : ℕ} {place : ℕ → ℕ} (i v : ℕ) → WroteFrom B w w′ n place → i ≡ place n → i < length w → v ≡ getD B (place n) 0
+    → WroteFrom B w (set w′ i v) (n + 1) place
 wrote-more {B} {w} {w′} {n} {place} i v W e h q =
     let room : i < length w′ = rw (W .long) h in
     let is : v ≡ getD B i 0 = rw e q in
@@ -63,7 +63,7 @@ pub solved-start : (m z d : ℕ) (places B w : List ℕ) → Solved 0 0 m z d pl
 solved-start m z d places B w = record { long = refl; still = λ k h. h; new = λ t e a b p q. absurd (not-suc-le-zero b) }
 
 pub solved-degree : {t many m z e : ℕ} {places B w w′ w″ : List ℕ} → Solved t (t + many) m z e places B w w′
-    → Wrote B w′ w″ many (λ k. t * m + getD places e 0 + k * m) → Solved t (t + many) m z (e + 1) places B w w″
+    → WroteFrom B w′ w″ many (λ k. t * m + getD places e 0 + k * m) → Solved t (t + many) m z (e + 1) places B w w″
 solved-degree {t} {many} {m} {z} {e} {places} {B} {w} {w′} {w″} S W =
     record {
       long = W .long ∙ S .long;

@@ -45,7 +45,7 @@ pub record Rests (prefixes points : List ℕ) (columns : List (List ℕ)) (high 
       ≡ getD prefixes (a * prefix + q + k) 0 ⊕ eval (getD points a 0) (map (λ column. getD column k 0) (take high columns))
 
 -- w became w′ by writes of bytes of B alone, among them those at the first n of these places
-pub record Wrote (B w w′ : List ℕ) (n : ℕ) (place : ℕ → ℕ) : Type 0 where
+pub record WroteFrom (B w w′ : List ℕ) (n : ℕ) (place : ℕ → ℕ) : Type 0 where
   pub long : length w′ ≡ length w
   pub still : (i : ℕ) → getD w i 0 ≡ getD B i 0 → getD w′ i 0 ≡ getD B i 0
   pub new : (k : ℕ) → k < n → getD w′ (place k) 0 ≡ getD B (place k) 0
@@ -53,7 +53,7 @@ pub record Wrote (B w w′ : List ℕ) (n : ℕ) (place : ℕ → ℕ) : Type 0 
 -- the first n of the column's bytes were written, `step` apart from place `at` on: said for every B that has the first `many` of them there
 abbrev pub Scattered : List ℕ → ℕ → ℕ → ℕ → ℕ → List ℕ → List ℕ → Type 0
 Scattered column at step many n w w′ =
-    (B : List ℕ) → ((k : ℕ) → k < many → getD column k 0 ≡ getD B (at + k * step) 0) → Wrote B w w′ n (λ k. at + k * step)
+    (B : List ℕ) → ((k : ℕ) → k < many → getD column k 0 ≡ getD B (at + k * step) 0) → WroteFrom B w w′ n (λ k. at + k * step)
 
 -- ---- one row, of what is read in these sizes
 
@@ -89,21 +89,21 @@ pub record RowOf (sizes : Sizes) (top q : ℕ) (places points prefixes B : List 
       → getD prefixes (a * sizes .prefix + (q + t)) 0 ≡ eval (getD points a 0) (row t)
 
 -- the buffer has B's bytes at the places of degrees `low` to `high` − 1, in the blocks from s to n − 1
-abbrev pub Holds : ℕ → ℕ → ℕ → ℕ → ℕ → List ℕ → List ℕ → List ℕ → Type 0
-Holds s n m low high places B w =
+abbrev pub HasPlaces : ℕ → ℕ → ℕ → ℕ → ℕ → List ℕ → List ℕ → List ℕ → Type 0
+HasPlaces s n m low high places B w =
     (t e : ℕ) → s ≤ t → t < n → low ≤ e → e < high → getD w (t * m + getD places e 0) 0 ≡ getD B (t * m + getD places e 0) 0
 
 -- w became w′ by writes of bytes of B alone, among them those at the places of degrees z to d − 1, in the blocks from s to n − 1
 pub record Solved (s n m z d : ℕ) (places B w w′ : List ℕ) : Type 0 where
   pub long : length w′ ≡ length w
   pub still : (i : ℕ) → getD w i 0 ≡ getD B i 0 → getD w′ i 0 ≡ getD B i 0
-  pub new : Holds s n m z d places B w′
+  pub new : HasPlaces s n m z d places B w′
 
 -- what a row's loop over the blocks from s to n − 1 does: said for every B that has these prefixes and is known from degree d up
 abbrev pub Solves : Sizes → ℕ → ℕ → List ℕ → List ℕ → List (List ℕ) → List ℕ → ℕ → ℕ → List ℕ → List ℕ → Type 0
 Solves sizes top q places points basis prefixes s n w w′ =
     (B : List ℕ) → BasisOf points basis → RowOf sizes top q places points prefixes B
-    → Holds s n (sizes .block) (sizes .d) top places B w → Solved s n (sizes .block) (sizes .z) (sizes .d) places B w w′
+    → HasPlaces s n (sizes .block) (sizes .d) top places B w → Solved s n (sizes .block) (sizes .z) (sizes .d) places B w w′
 
 -- ---- all rows, in the scheme s with the counts ds
 
@@ -149,3 +149,13 @@ abbrev pub Found : Scheme → List ℕ → ℕ → ℕ → ℕ → List ℕ → 
 Found s ds d blocks g B w =
     (j e t : ℕ) → rowsBefore s ds g ≤ j → j < sentRows s d → t < blocks → s .z ≤ e → e < countOf (s .block) (s .z) ds j
     → getD w (t * s .block + origin (s .block) (s .z) ds j e) 0 ≡ getD B (t * s .block + origin (s .block) (s .z) ds j e) 0
+
+-- the rows of group g were found, where those of the later groups stood in the buffer
+abbrev pub GroupFound : Scheme → List ℕ → ℕ → ℕ → ℕ → List ℕ → List (List ℕ) → List ℕ → List ℕ → List ℕ → Type 0
+GroupFound s ds d blocks g points basis prefixes w w′ =
+    EachSent s ds d blocks points basis prefixes (λ B. Found s ds d blocks (g + 1) B w → Found s ds d blocks g B w′)
+
+-- the output became the beginning of what was sent
+abbrev pub OpensTo : Scheme → List ℕ → ℕ → ℕ → List ℕ → List (List ℕ) → List ℕ → List ℕ → List ℕ → Type 0
+OpensTo s ds d blocks points basis prefixes before after =
+    EachSent s ds d blocks points basis prefixes (λ B. after ≡ take (length before) B)

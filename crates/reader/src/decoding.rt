@@ -8,6 +8,7 @@ ghost use lib.ListN.{length, getD};
 ghost use Rattle.gf256.specs.Lanes.{lanes};
 ghost use Rattle.interpolation.specs.Interpolation.{side};
 ghost use Rattle.reader.specs.Decoding as decoding;
+ghost use Rattle.reader.specs.Decoding.{Solves};
 use gf256::lanes;
 use gf256::lanes::LANES;
 use interpolation::SIDE;
@@ -150,7 +151,7 @@ fn decode_batch(
     requires input { ⌜ decoding.SizesFit sizes (now points) (now prefixes) × decoding.RowFits sizes top q (now places) × (length (now work) ≡ sizes .blocks * sizes .block) ⌝ }
     requires batch { ⌜ (many ≤ lanes) × (t + many ≤ sizes .blocks) × (now used + sizes .d * many ≤ decoding.maxUsize) ⌝ }
     ensures counted { λ _. ⌜ now (used .exit) ≡ now (used .entry) + sizes .d * many ⌝ }
-    ensures solved { λ _. ⌜ decoding.Solves sizes top q (now (places .entry)) (now (points .entry)) (now (basis .entry)) (now (prefixes .entry)) t (t + many) (now (work .entry)) (now (work .exit)) ⌝ }
+    ensures solved { λ _. ⌜ Solves sizes top q (now (places .entry)) (now (points .entry)) (now (basis .entry)) (now (prefixes .entry)) t (t + many) (now (work .entry)) (now (work .exit)) ⌝ }
 {
     let z = sizes.z;
     let d = sizes.d;
@@ -181,7 +182,7 @@ fn decode_row(
     requires input { ⌜ decoding.SizesFit sizes (now points) (now prefixes) × decoding.RowFits sizes top q (now places) × (length (now work) ≡ sizes .blocks * sizes .block) ⌝ }
     requires counter { ⌜ now used + sizes .d * sizes .blocks ≤ decoding.maxUsize ⌝ }
     ensures counted { λ _. ⌜ now (used .exit) ≡ now (used .entry) + sizes .d * sizes .blocks ⌝ }
-    ensures solved { λ _. ⌜ decoding.Solves sizes top q (now (places .entry)) (now (points .entry)) basis (now (prefixes .entry)) 0 (sizes .blocks) (now (work .entry)) (now (work .exit)) ⌝ }
+    ensures solved { λ _. ⌜ Solves sizes top q (now (places .entry)) (now (points .entry)) basis (now (prefixes .entry)) 0 (sizes .blocks) (now (work .entry)) (now (work .exit)) ⌝ }
 {
     let blocks = sizes.blocks;
     let mut t = 0;
@@ -232,7 +233,7 @@ fn decode_group(
     requires input { ⌜ decoding.Input s (now counts) d blocks (now points) (now prefixes) × (length (now work) ≡ blocks * s .block) ⌝ }
     requires group { ⌜ (g < length (now counts)) × (d ≤ getD (now counts) g 0) × (now used + decoding.groupBytes s (now counts) d blocks g ≤ decoding.maxUsize) ⌝ }
     ensures counted { λ _. ⌜ now (used .exit) ≡ now (used .entry) + decoding.groupBytes s (now (counts .entry)) d blocks g ⌝ }
-    ensures found { λ _. ⌜ decoding.EachSent s (now (counts .entry)) d blocks (now (points .entry)) basis (now (prefixes .entry)) (λ B. decoding.Found s (now (counts .entry)) d blocks (g + 1) B (now (work .entry)) → decoding.Found s (now (counts .entry)) d blocks g B (now (work .exit))) ⌝ }
+    ensures found { λ _. ⌜ decoding.GroupFound s (now (counts .entry)) d blocks g (now (points .entry)) basis (now (prefixes .entry)) (now (work .entry)) (now (work .exit)) ⌝ }
 {
     let sizes = Sizes {
         z: s.z as usize,

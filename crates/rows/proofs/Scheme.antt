@@ -15,7 +15,7 @@ use Rattle.staircase.specs.Coefficients.{groupOf, countOf}
 use Rattle.staircase.proofs.Groups.{group-place}
 
 module _ (s : Scheme) (ds : List ℕ) (S : SchemeIs s (s .n) (s .r) (s .z) ds) where
-  pub facts-of : facts.Accepted (s .n) (s .r) (s .z) ds (s .block) (s .rows)
+  pub facts-of : facts.SchemeFacts (s .n) (s .r) (s .z) ds (s .block) (s .rows)
   facts-of = rw (S .rows-is, S .block-is) (accepted (s .n) (s .r) (s .z) ds (S .passed))
 
   -- a block has no more rows than bytes

@@ -9,10 +9,10 @@ use native.Mathlib.Omega.{arith}
 use lib.Dec.{ltb, eqb}
 use borrow.Author.Tests.{lt-ltb, le-ltb, eq-eqb, ne-eqb}
 use Rattle.scheme.specs.declared.Answer.{Answer}
-use Rattle.scheme.specs.declared.Answer.the-variants.{Accepted, Refused}
+use Rattle.scheme.specs.declared.Answer.the-variants.{Value, Refused}
 use Rattle.scheme.specs.declared.SchemeAnswer.{SchemeAnswer}
 use Rattle.scheme.specs.declared.SchemeAnswer.the-variants.{Refused as SchemeRefused}
-use Rattle.scheme.specs.Outcome.{Outcome, accepted, refused, outcome, schemeOutcome, when, firstOf, answer}
+use Rattle.scheme.specs.Outcome.{Outcome, accepted, refused, outcome, schemeOutcome, numberIf, firstOf, answer}
 use Rattle.scheme.specs.Check.{refusal, checked}
 
 -- ---- the ways through a list of refusals, for a call with these values
@@ -24,22 +24,22 @@ pub data Way (vs : List ℕ) : List ℕ → Outcome → Type 0 where
 
 -- a step for each kind of condition: that a test is true, that b is above a, and that a and b differ
 module _ {vs qs : List ℕ} where
-  pub stop-true : {t : Bool} {q : ℕ} → t ≡ true → Way vs (when (suc q) t ∷ qs) (refused (suc q))
+  pub stop-true : {t : Bool} {q : ℕ} → t ≡ true → Way vs (numberIf (suc q) t ∷ qs) (refused (suc q))
   stop-true {q} e = rw e (stop {q = suc q} (omega arith))
 
-  pub pass-false : {t : Bool} {o : Outcome} (q : ℕ) → t ≡ false → Way vs qs o → Way vs (when q t ∷ qs) o
-  pass-false {t} q e w = pass {q = when q t} (rw e) w
+  pub pass-false : {t : Bool} {o : Outcome} (q : ℕ) → t ≡ false → Way vs qs o → Way vs (numberIf q t ∷ qs) o
+  pass-false {t} q e w = pass {q = numberIf q t} (rw e) w
 
-  pub stop-over : {a b q : ℕ} → a < b → Way vs (when (suc q) (ltb a b) ∷ qs) (refused (suc q))
+  pub stop-over : {a b q : ℕ} → a < b → Way vs (numberIf (suc q) (ltb a b) ∷ qs) (refused (suc q))
   stop-over h = stop-true (lt-ltb _ _ h)
 
-  pub pass-within : {a b : ℕ} {o : Outcome} (q : ℕ) → b ≤ a → Way vs qs o → Way vs (when q (ltb a b) ∷ qs) o
+  pub pass-within : {a b : ℕ} {o : Outcome} (q : ℕ) → b ≤ a → Way vs qs o → Way vs (numberIf q (ltb a b) ∷ qs) o
   pass-within q h w = pass-false q (le-ltb _ _ h) w
 
-  pub stop-other : {a b q : ℕ} → (a ≡ b → ⊥) → Way vs (when (suc q) (not (eqb a b)) ∷ qs) (refused (suc q))
+  pub stop-other : {a b q : ℕ} → (a ≡ b → ⊥) → Way vs (numberIf (suc q) (not (eqb a b)) ∷ qs) (refused (suc q))
   stop-other h = stop-true (ap not (ne-eqb _ _ h))
 
-  pub pass-same : {a b : ℕ} {o : Outcome} (q : ℕ) → a ≡ b → Way vs qs o → Way vs (when q (not (eqb a b)) ∷ qs) o
+  pub pass-same : {a b : ℕ} {o : Outcome} (q : ℕ) → a ≡ b → Way vs qs o → Way vs (numberIf q (not (eqb a b)) ∷ qs) o
   pass-same q e w = pass-false q (ap not (eq-eqb _ _ e)) w
 
 -- ---- the answer
@@ -94,7 +94,7 @@ module _ (a : Answer) (k v : ℕ) (e : outcome a ≡ answer k (v ∷ [])) where
   pub told-refused : {q : ℕ} → a ≡ Refused q → 0 < k
   told-refused {q} told = answered-some k q v [] (sym (ap outcome told) ∙ e) .1
 
-  pub told-accepted : {d : ℕ} → a ≡ Accepted d → (k ≡ 0) × (d ≡ v)
+  pub told-accepted : {d : ℕ} → a ≡ Value d → (k ≡ 0) × (d ≡ v)
   told-accepted {d} told =
       let none = answered-none k (d ∷ []) (v ∷ []) (sym (ap outcome told) ∙ e) in
       (none .0, cc (none .1))
@@ -119,6 +119,6 @@ unfolding firstOf
 first-none zero qs e = (refl, e)
 first-none (suc q) qs e = absurd (let no : ⊥ = omega (arith, numbered (stop {q = suc q} {qs = qs} (omega arith))) in no)
 
-pub first-when : (q : ℕ) (t : Bool) (qs : List ℕ) → firstOf (when (suc q) t ∷ qs) ≡ 0 → (t ≡ false) × (firstOf qs ≡ 0)
-first-when q true qs e = absurd (let no : ⊥ = omega (arith, first-none (suc q) qs e .0) in no)
-first-when q false qs e = (refl, first-none 0 qs e .1)
+pub first-if : (q : ℕ) (t : Bool) (qs : List ℕ) → firstOf (numberIf (suc q) t ∷ qs) ≡ 0 → (t ≡ false) × (firstOf qs ≡ 0)
+first-if q true qs e = absurd (let no : ⊥ = omega (arith, first-none (suc q) qs e .0) in no)
+first-if q false qs e = (refl, first-none 0 qs e .1)

@@ -16,7 +16,7 @@ use borrow.Author.Tests.{eq-eqb, ne-eqb, eqb-true}
 use Rattle.lists.specs.Each.{Each}
 use Rattle.lists.proofs.Each.{each-imp}
 use Rattle.lists.proofs.Tests.{both}
-use Rattle.scheme.specs.BlockLength.{divides, firstFrom, product, blockLength, Least}
+use Rattle.scheme.specs.BlockLength.{divides, firstFrom, commonMultiple, blockLength, Least}
 
 -- the test says what it is to say
 divides-each : (z : ℕ) (ds : List ℕ) (x : ℕ) → divides z ds x ≡ true → Each (λ d. d - z ∣ x) ds
@@ -31,22 +31,22 @@ unfolding divides
 each-divides z [] x h = refl
 each-divides z (d ∷ ds) x h = rw (eq-eqb (x % (d - z)) 0 (mod-eq-zero-of-dvd (d - z) (h .0)), each-divides z ds x (h .1))
 
-product-divided : (z : ℕ) (ds : List ℕ) → Each (λ d. d - z ∣ product z ds) ds
-unfolding product
-product-divided z [] = tt
-product-divided z (d ∷ ds) = (
-  dvd-mul-right (d - z) (product z ds),
-  each-imp (λ e. e - z ∣ product z ds) (λ e. e - z ∣ (d - z) * product z ds)
-      (λ e h. dvd-mul-left-of-dvd (e - z) h (d - z)) ds (product-divided z ds),
+multiple-divided : (z : ℕ) (ds : List ℕ) → Each (λ d. d - z ∣ commonMultiple z ds) ds
+unfolding commonMultiple
+multiple-divided z [] = tt
+multiple-divided z (d ∷ ds) = (
+  dvd-mul-right (d - z) (commonMultiple z ds),
+  each-imp (λ e. e - z ∣ commonMultiple z ds) (λ e. e - z ∣ (d - z) * commonMultiple z ds)
+      (λ e h. dvd-mul-left-of-dvd (e - z) h (d - z)) ds (multiple-divided z ds),
 )
 
-product-positive : (z : ℕ) (ds : List ℕ) → Each (λ d. z < d) ds → 0 < product z ds
-unfolding product
-product-positive z [] h = omega arith
-product-positive z (d ∷ ds) h =
+multiple-positive : (z : ℕ) (ds : List ℕ) → Each (λ d. z < d) ds → 0 < commonMultiple z ds
+unfolding commonMultiple
+multiple-positive z [] h = omega arith
+multiple-positive z (d ∷ ds) h =
     let l : z < d = h .0 in
     let p : 0 < d - z = omega arith in
-    mul-pos p (product-positive z ds (h .1))
+    mul-pos p (multiple-positive z ds (h .1))
 
 -- every d − z divides none of the numbers from x up to y
 abbrev pub NoneFrom : ℕ → List ℕ → ℕ → ℕ → Type 0
@@ -94,8 +94,8 @@ module _ (z : ℕ) (ds : List ℕ) where
   pub block-least : Each (λ d. z < d) ds → Least z ds (blockLength z ds)
   unfolding blockLength
   block-least above =
-      let f = found (product z ds) 1 in
-      let l = past (blockLength z ds) (product z ds) (f .before) (product-positive z ds above) (product-divided z ds) in
+      let f = found (commonMultiple z ds) 1 in
+      let l = past (blockLength z ds) (commonMultiple z ds) (f .before) (multiple-positive z ds above) (multiple-divided z ds) in
       record {
         positive = f .low;
         divided = divides-each z ds (blockLength z ds) (f .here (omega arith));

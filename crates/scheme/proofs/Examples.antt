@@ -5,12 +5,12 @@ use mathlib.Core.Bool.{true, false}
 use mathlib.Core.List.{[], _∷_}
 use Rattle.scheme.specs.Limits.{defaultN, defaultR, defaultZ, defaultCounts}
 use Rattle.scheme.specs.Outcome.{accepted, refused, firstOf, answer}
-use Rattle.scheme.specs.BlockLength.{divides, firstFrom, product, blockLength}
+use Rattle.scheme.specs.BlockLength.{divides, firstFrom, commonMultiple, blockLength}
 use Rattle.scheme.specs.Check.{falls, partiesRefused, thresholdsRefused, countsRefused, blockRefused, refusal, rowsOfCount, rowsOfBlock, checked}
 use Rattle.scheme.specs.Readers.{rises, within, readersRefused}
 
 pub default-accepted : refusal defaultN defaultR defaultZ defaultCounts ≡ 0
-unfolding divides firstFrom product blockLength falls partiesRefused thresholdsRefused countsRefused blockRefused firstOf refusal
+unfolding divides firstFrom commonMultiple blockLength falls partiesRefused thresholdsRefused countsRefused blockRefused firstOf refusal
 default-accepted = refl
 
 pub examples :
@@ -32,5 +32,5 @@ pub examples :
     × (readersRefused 16 (1 ∷ 16 ∷ []) ≡ false)
     × (readersRefused 15 (1 ∷ 16 ∷ []) ≡ true)
     × (readersRefused 16 (0 ∷ 16 ∷ []) ≡ true)
-unfolding divides firstFrom product blockLength falls partiesRefused thresholdsRefused countsRefused blockRefused firstOf answer refusal rowsOfCount rowsOfBlock checked rises within readersRefused
+unfolding divides firstFrom commonMultiple blockLength falls partiesRefused thresholdsRefused countsRefused blockRefused firstOf answer refusal rowsOfCount rowsOfBlock checked rises within readersRefused
 examples = (refl, refl, refl, refl, refl, refl, refl, refl, refl, refl, refl, refl, refl, refl, refl)

@@ -2,7 +2,7 @@ mod BlockLength
 mod Counts
 mod Answers
 mod Refusals
-mod Accepted
+mod SchemeFacts
 mod Parties
 mod Written
 mod Decimal

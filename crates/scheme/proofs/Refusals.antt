@@ -15,7 +15,7 @@ use Rattle.scheme.specs.Outcome.{accepted, refused}
 use Rattle.scheme.specs.BlockLength.{blockLength}
 use Rattle.scheme.specs.Check.{partiesRefused, thresholdsRefused, countsRefused, blockRefused, refusal, rowsOfBlock, checked}
 use Rattle.scheme.specs.Facts.{Sizes}
-use Rattle.scheme.proofs.Answers.{done, stop-true, stop-over, pass-false, pass-within, answer-none, answers, numbered, first-when}
+use Rattle.scheme.proofs.Answers.{done, stop-true, stop-over, pass-false, pass-within, answer-none, answers, numbered, first-if}
 
 pub sizes : (n r z : ℕ) → partiesRefused n ≡ false → thresholdsRefused n r z ≡ false → Sizes n r z
 unfolding partiesRefused thresholdsRefused
@@ -57,10 +57,10 @@ pub record Passed (n r z : ℕ) (ds : List ℕ) : Type 0 where
 pub passed : (n r z : ℕ) (ds : List ℕ) → refusal n r z ds ≡ 0 → Passed n r z ds
 unfolding refusal blockRefused
 passed n r z ds e =
-    let one = first-when _ _ _ e in
-    let two = first-when _ _ _ (one .1) in
-    let three = first-when _ _ _ (two .1) in
-    let four = first-when _ _ _ (three .1) in
+    let one = first-if _ _ _ e in
+    let two = first-if _ _ _ (one .1) in
+    let three = first-if _ _ _ (two .1) in
+    let four = first-if _ _ _ (three .1) in
     record { parties = one .0; thresholds = two .0; counts = three .0; block = ltb-false maxBlock (blockLength z ds) (four .0) }
 
 -- the code's ways out

@@ -14,13 +14,13 @@ use Rattle.scheme.specs.declared.Scheme.{Scheme}
 use Rattle.scheme.specs.declared.SchemeAnswer.{SchemeAnswer}
 use Rattle.scheme.specs.declared.SchemeAnswer.the-variants.{Accepted, Refused}
 use Rattle.scheme.specs.Limits.{maxParties, maxBlock, defaultN, defaultR, defaultZ, defaultCounts}
-use Rattle.scheme.specs.Outcome.{schemeOutcome, when, firstOf}
+use Rattle.scheme.specs.Outcome.{schemeOutcome, numberIf, firstOf}
 use Rattle.scheme.specs.BlockLength.{blockLength}
 use Rattle.scheme.specs.Check.{partiesRefused, thresholdsRefused, countsRefused, blockRefused, refusal, rowsOfCount, rowsOfBlock, checked}
 use Rattle.scheme.specs.Sheet.{decimal, line, countLine, countLines, schemeText, sheetText, wordBlock, wordRows, wordRefused, maxInput}
 use Rattle.scheme.specs.Writing.{maxText}
 use Rattle.scheme.proofs.Answers.{scheme-told}
-use Rattle.scheme.proofs.Accepted.{accepted, accepted-scheme}
+use Rattle.scheme.proofs.SchemeFacts.{accepted, accepted-scheme}
 use Rattle.scheme.proofs.Decimal.{decimal-short}
 
 pub count-lines-more : (m z : ℕ) (ds : List ℕ) (d : ℕ) → countLines m z (ds ++ (d ∷ [])) ≡ countLines m z ds ++ countLine m z d
@@ -49,7 +49,7 @@ count-lines-short m z (d ∷ ds) hm h =
     simp length-append
     (omega (arith, count-line-short m z d hm (h 0 (omega arith)), count-lines-short m z ds hm (λ i l. h (suc i) (suc-le-suc l))))
 
-number-most : (s t u v : Bool) → firstOf (when 1 s ∷ when 2 t ∷ when 3 u ∷ when 4 v ∷ []) ≤ 4
+number-most : (s t u v : Bool) → firstOf (numberIf 1 s ∷ numberIf 2 t ∷ numberIf 3 u ∷ numberIf 4 v ∷ []) ≤ 4
 unfolding firstOf
 number-most true t u v = omega arith
 number-most false true u v = omega arith

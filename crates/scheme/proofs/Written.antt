@@ -9,7 +9,7 @@ use native.Mathlib.Omega.{arith}
 use lib.ListN.{length, set, take, replicate, length-append}
 use lib.Seq.{set-out}
 use Rattle.scheme.specs.declared.writer.Text.{Text}
-use Rattle.scheme.specs.Writing.{Whole, Holds, Adds, maxText, withZeros}
+use Rattle.scheme.specs.Writing.{Whole, Contains, Adds, maxText, withZeros}
 
 pub zeros-none : (k : ℕ) → withZeros k [] ≡ replicate k 0
 unfolding withZeros
@@ -36,9 +36,9 @@ zeros-byte zero text b = refl
 zeros-byte (suc k) [] b = refl
 zeros-byte (suc k) (x ∷ text) b = ap (λ l. x ∷ l) (zeros-byte k text b)
 
-module _ (t : Text) (text : List ℕ) (b : ℕ) (h : Holds t text) where
+module _ (t : Text) (text : List ℕ) (b : ℕ) (h : Contains t text) where
   pub holds-byte : t .length < maxText
-      → Holds (record { bytes = set (t .bytes) (t .length) b; length = t .length + 1 }) (text ++ (b ∷ []))
+      → Contains (record { bytes = set (t .bytes) (t .length) b; length = t .length + 1 }) (text ++ (b ∷ []))
   holds-byte room =
       let e : t .length ≡ length text = omega arith in
       record {
@@ -46,7 +46,7 @@ module _ (t : Text) (text : List ℕ) (b : ℕ) (h : Holds t text) where
         bytes = rw (e, h .bytes) (zeros-byte maxText text b);
       }
 
-  pub holds-full : maxText ≤ t .length → Holds t (text ++ (b ∷ []))
+  pub holds-full : maxText ≤ t .length → Contains t (text ++ (b ∷ []))
   holds-full full =
       let e : maxText ≤ length text = omega arith in
       record {
@@ -65,7 +65,7 @@ adds-then {xs = xs} f g =
     }
 
 -- of a text that fits nothing is dropped
-pub whole : {t : Text} {text : List ℕ} → Holds t text → length text ≤ maxText → Whole t text
+pub whole : {t : Text} {text : List ℕ} → Contains t text → length text ≤ maxText → Whole t text
 whole {t} {text} h fits =
     let room : length (t .bytes) ≡ maxText = ap length (h .bytes) ∙ length-zeros maxText text in
     record { within = omega arith; long = omega arith; bytes = h .bytes }

@@ -19,12 +19,12 @@ firstFrom z ds (suc many) x =
     cond (divides z ds x) x later
 
 -- the product of all d − z: every d − z divides it, so a search from 1 need not go past it
-unfoldable pub product : ℕ → List ℕ → ℕ
-product z [] = 1
-product z (d ∷ ds) = (d - z) * product z ds
+unfoldable pub commonMultiple : ℕ → List ℕ → ℕ
+commonMultiple z [] = 1
+commonMultiple z (d ∷ ds) = (d - z) * commonMultiple z ds
 
 unfoldable pub blockLength : ℕ → List ℕ → ℕ
-blockLength z ds = firstFrom z ds (product z ds) 1
+blockLength z ds = firstFrom z ds (commonMultiple z ds) 1
 
 -- m is the smallest positive number that every d − z divides, of all numbers
 pub record Least (z : ℕ) (ds : List ℕ) (m : ℕ) : Type 0 where

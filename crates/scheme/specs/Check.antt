@@ -6,7 +6,7 @@ use Prim.Native.Nat.{ℕ, _+_, _-_, _/_}
 use lib.Dec.{ltb, leb, eqb}
 use lib.ListN.{length, getD}
 use Rattle.scheme.specs.Limits.{maxParties, maxCounts, maxBlock}
-use Rattle.scheme.specs.Outcome.{Outcome, when, firstOf, answer}
+use Rattle.scheme.specs.Outcome.{Outcome, numberIf, firstOf, answer}
 use Rattle.scheme.specs.BlockLength.{blockLength}
 
 -- does the list fall strictly?
@@ -39,10 +39,10 @@ blockRefused z ds = ltb maxBlock (blockLength z ds)
 unfoldable pub refusal : ℕ → ℕ → ℕ → List ℕ → ℕ
 refusal n r z ds =
     firstOf
-    (when 1 (partiesRefused n)
-    ∷ when 2 (thresholdsRefused n r z)
-    ∷ when 3 (countsRefused n r ds)
-    ∷ when 4 (blockRefused z ds)
+    (numberIf 1 (partiesRefused n)
+    ∷ numberIf 2 (thresholdsRefused n r z)
+    ∷ numberIf 3 (countsRefused n r ds)
+    ∷ numberIf 4 (blockRefused z ds)
     ∷ [])
 
 -- P of a count d, in a scheme with block length m: the rows of a block that d parties send

@@ -17,7 +17,7 @@ pub record Sizes (n r z : ℕ) : Type 0 where
   pub room : r + z < n
 
 -- an accepted scheme with block length m and b rows a block. The counts are d 0 > d 1 > ..; P d is `rowsOfCount m z d`.
-pub record Accepted (n r z : ℕ) (ds : List ℕ) (m b : ℕ) : Type 0 where
+pub record SchemeFacts (n r z : ℕ) (ds : List ℕ) (m b : ℕ) : Type 0 where
   pub sizes : Sizes n r z
   pub some : 0 < length ds
   pub most : length ds ≤ maxCounts

@@ -3,6 +3,7 @@ pub mod Outcome
 pub mod BlockLength
 pub mod Check
 pub mod Facts
+pub mod Grounds
 pub mod Readers
 pub mod Sheet
 pub mod Writing

@@ -5,9 +5,9 @@ use mathlib.Core.List.{List, [], _∷_}
 use Prim.Native.Nat.{ℕ}
 use lib.Dec.{eqb}
 use Rattle.scheme.specs.declared.Answer.{Answer}
-use Rattle.scheme.specs.declared.Answer.the-variants.{Accepted, Refused}
+use Rattle.scheme.specs.declared.Answer.the-variants.{Value, Refused}
 use Rattle.scheme.specs.declared.SchemeAnswer.{SchemeAnswer}
-use Rattle.scheme.specs.declared.SchemeAnswer.the-variants.{Accepted as SchemeAccepted, Refused as SchemeRefused}
+use Rattle.scheme.specs.declared.SchemeAnswer.the-variants.{Accepted, Refused as SchemeRefused}
 
 pub record Outcome : Type 0 where
   pub number : ℕ
@@ -21,19 +21,19 @@ refused q = record { number = q; values = [] }
 
 -- the cases of the answer of a call that answers one number
 abbrev pub outcome : Answer → Outcome
-outcome (Accepted number) = accepted (number ∷ [])
+outcome (Value number) = accepted (number ∷ [])
 outcome (Refused q) = refused q
 
 -- the cases of the check's answer: of an accepted scheme n, r, z, the block length m and the rows b
 abbrev pub schemeOutcome : SchemeAnswer → Outcome
-schemeOutcome (SchemeAccepted s) = accepted (s .n ∷ s .r ∷ s .z ∷ s .block ∷ s .rows ∷ [])
+schemeOutcome (Accepted s) = accepted (s .n ∷ s .r ∷ s .z ∷ s .block ∷ s .rows ∷ [])
 schemeOutcome (SchemeRefused q) = refused q
 
 -- ---- the first refusal that applies
 
 -- a refusal's number where its condition holds, else 0
-abbrev pub when : ℕ → Bool → ℕ
-when number holds = cond holds number 0
+abbrev pub numberIf : ℕ → Bool → ℕ
+numberIf number holds = cond holds number 0
 
 -- the first of these numbers that is not 0
 unfoldable pub firstOf : List ℕ → ℕ

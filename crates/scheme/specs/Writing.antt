@@ -23,10 +23,10 @@ pub record Whole (t : Text) (text : List ℕ) : Type 0 where
   pub bytes : t .bytes ≡ withZeros maxText text
 
 -- t holds a text, or as much of it as there is room for
-pub record Holds (t : Text) (text : List ℕ) : Type 0 where
+pub record Contains (t : Text) (text : List ℕ) : Type 0 where
   pub long : t .length ≡ min (length text) maxText
   pub bytes : t .bytes ≡ withZeros maxText text
 
 -- whatever text the one holds, the other holds that text with these bytes after it
 pub record Adds (from to : Text) (more : List ℕ) : Type 0 where
-  pub holds : (text : List ℕ) → Holds from text → Holds to (text ++ more)
+  pub holds : (text : List ℕ) → Contains from text → Contains to (text ++ more)

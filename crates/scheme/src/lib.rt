@@ -38,7 +38,7 @@ pub enum SchemeAnswer {
 // The answer of the calls that answer one number: that number, or the number of the first refusal that
 // applies.
 pub enum Answer {
-    Accepted(usize),
+    Value(usize),
     Refused(u8),
 }
 

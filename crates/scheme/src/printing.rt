@@ -8,7 +8,7 @@ ghost use Prim.Native.Nat.{_≤_};
 ghost use lib.ListN.{getD, take, drop};
 ghost use Rattle.scheme.specs.Limits.{maxBlock};
 ghost use Rattle.scheme.specs.Sheet.{countLine, countLines, schemeText, sheetText, maxInput};
-ghost use Rattle.scheme.specs.Writing.{Whole, Holds, Adds};
+ghost use Rattle.scheme.specs.Writing.{Whole, Contains, Adds};
 
 // How many bytes of the input count; for the contracts this stands in specs/Sheet.antt.
 pub const MAX_INPUT: usize = 12;
@@ -57,7 +57,7 @@ fn counts_of(input: &[u8]) -> &[u8]
 
 // The text for a scheme.
 fn scheme_text(n: u8, r: u8, z: u8, counts: &[u8]) -> Text
-    ensures { λ t. ⌜ Holds t (schemeText n r z (now (counts .entry))) ⌝ }
+    ensures { λ t. ⌜ Contains t (schemeText n r z (now (counts .entry))) ⌝ }
 {
     let answer = crate::check(n, r, z, counts);
     let SchemeAnswer::Accepted(scheme) = answer else {

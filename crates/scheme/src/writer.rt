@@ -1,7 +1,7 @@
 // A text that is built from the front, passed and returned by value. What does not fit is dropped.
 ghost use mathlib.Core.List.{[], _∷_};
 ghost use Rattle.scheme.specs.Sheet.{decimal};
-ghost use Rattle.scheme.specs.Writing.{Holds, Adds};
+ghost use Rattle.scheme.specs.Writing.{Contains, Adds};
 
 // The bytes that a text has room for; for the contracts this stands in specs/Writing.antt.
 const MAX_TEXT: usize = 256;
@@ -15,7 +15,7 @@ pub struct Text {
 impl Text {
     // The empty text.
     pub(crate) fn new() -> Text
-        ensures { λ t. ⌜ Holds t [] ⌝ }
+        ensures { λ t. ⌜ Contains t [] ⌝ }
     {
         Text {
             bytes: [0; MAX_TEXT],

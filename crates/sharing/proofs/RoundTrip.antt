@@ -14,13 +14,13 @@ use Rattle.lists.proofs.Joined.{length-joined, joined-same, piece-joined}
 use Rattle.scheme.specs.Limits.{maxMessage}
 use Rattle.scheme.specs.Outcome as outcome
 use Rattle.scheme.specs.Check.{blockCount, rowsOfCount}
-use Rattle.scheme.proofs.Laws.{accepted, readers-pass, parties-distinct, done, pass, pass-within, pass-false, pass-same, numbered, answer-none}
+use Rattle.scheme.proofs.Laws.{accepted, default-accepted, readers-pass, parties-distinct, done, pass, pass-within, pass-false, pass-same, numbered, answer-none}
 use Rattle.family.specs.Message.{padded}
 use Rattle.family.specs.Family.{shareOfBlocks}
 use Rattle.family.specs.Exactness.{firstRows}
 use Rattle.family.proofs.Shares.{length-share}
 use Rattle.family.proofs.Exactness.{message-back}
-use Rattle.staircase.specs.Parameters.{Parameters, Accepted, Party, block, rows, blocksOf, outputBytes}
+use Rattle.staircase.specs.Parameters.{Parameters, AcceptedScheme, Party, defaultParameters, block, rows, blocksOf, outputBytes}
 use Rattle.staircase.specs.Shares.{staircase, partOf, KeyString}
 use Rattle.staircase.proofs.Hidden.{part-is-share}
 use Rattle.staircase.proofs.Sizes.{rows-within}
@@ -32,7 +32,7 @@ use Rattle.sharing.specs.RoundTrip.{handed, RoundTrip}
 use Rattle.staircase.proofs.WholeBlocks.{keys-number, exact, bytes-number}
 use Rattle.dealer.proofs.Laws.{none-applies, written}
 
-module _ (p : Parameters) (A : Accepted p) (message keys : List ℕ) (bytes : Each Byte message) (short : length message ≤ maxMessage) (K : KeyString p (length message) keys)
+module _ (p : Parameters) (A : AcceptedScheme p) (message keys : List ℕ) (bytes : Each Byte message) (short : length message ≤ maxMessage) (K : KeyString p (length message) keys)
     (parties : List ℕ) (counted : occurs (length parties) (p .counts) ≡ true) (apart : Distinct parties) (inside : Each (Party p) parties)
     (before : List ℕ) (room : length before ≡ outputBytes p (blocksOf p (length message))) where
   abbrev N : ℕ
@@ -91,7 +91,7 @@ module _ (p : Parameters) (A : Accepted p) (message keys : List ℕ) (bytes : Ea
       (exact p A parties counted apart inside N) (rw (← keys-number p N) at K)
       (λ a h. sym (piece-joined {A = ℕ} (length parties) (rowsSent * N) prefixAt (λ a _. prefix-long a) a h)))
 
-pub round-trip : (p : Parameters) → RoundTrip p
+pub round-trip : (p : Parameters) → AcceptedScheme p → RoundTrip p
 unfolding reconstructOutput reconstructAnswer reconstructRefusal
 round-trip p A message keys bytes short K parties counted rising before out room fits =
     let right = parties-distinct (p .n) parties rising in
@@ -100,3 +100,7 @@ round-trip p A message keys bytes short K parties counted rising before out room
     let passes : reconstructRefusal p (length message) parties (length (handed p (length message) parties (splitOutput p message keys before))) (length out) ≡ 0 =
     numbered (pass A (pass-within 5 short (pass-false 6 (ap not counted) (pass-false 7 passed (pass-same 9 long (pass-same 10 fits done)))))) in
     (answer-none _ _ passes ∙ ap (λ (x : ℕ). outcome.accepted (x ∷ [])) (sym long), simp passes (returned p A message keys bytes short K parties counted (right .0) (right .1) before room))
+
+-- the form without a scheme
+pub default-round-trip : RoundTrip defaultParameters
+default-round-trip = round-trip defaultParameters default-accepted

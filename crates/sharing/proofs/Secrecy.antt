@@ -2,28 +2,26 @@
 -- Assumes nothing.
 use mathlib.Core.Path.{_≡_, refl, sym, ap, _∙_}
 use mathlib.Core.List.{List}
-use Prim.Native.Nat.{ℕ, _≤_}
+use Prim.Native.Nat.{ℕ}
 use native.Mathlib.Omega.{arith}
 use lib.ListN.{length}
-use Rattle.lists.specs.Each.{Each, Byte}
 use Rattle.lists.proofs.Each.{map-each}
 use Rattle.lists.proofs.Once.{once, once-distinct, once-short, once-each, each-once}
-use Rattle.scheme.specs.Limits.{maxMessage}
 use Rattle.scheme.specs.Outcome.{Outcome, outcome}
 use Rattle.scheme.proofs.Laws.{default-accepted, told-accepted, told-refused, kept}
-use Rattle.staircase.specs.Parameters.{Parameters, Party, defaultParameters, blocksOf, outputBytes}
+use Rattle.staircase.specs.Parameters.{Parameters, AcceptedScheme, Party, defaultParameters, blocksOf, outputBytes}
 use Rattle.staircase.specs.Shares.{shares, partOf, KeyString}
 use Rattle.staircase.proofs.Hidden.{message-hidden}
 use Rattle.staircase.proofs.WholeBlocks.{keys-number}
 use Rattle.scheme.specs.declared.Answer.{Answer}
-use Rattle.scheme.specs.declared.Answer.the-variants.{Accepted as Answered, Refused}
-use Rattle.dealer.specs.Split.{splitRefusal, splitAnswer, splitOutput}
+use Rattle.scheme.specs.declared.Answer.the-variants.{Value, Refused}
+use Rattle.dealer.specs.Split.{splitRefusal, splitAnswer, splitOutput, SplitCall}
 use Rattle.dealer.proofs.Laws.{none-applies, written as written-out, output-long}
-use Rattle.sharing.specs.Secrecy.{Secret, Secrecy, Call, written, Wrote, OutcomeFromLengths}
+use Rattle.sharing.specs.Secrecy.{Secrecy, written, Wrote, OutcomeFromLengths}
 
 -- ---- secrecy
 
-pub secrecy : (p : Parameters) → Secrecy p
+pub secrecy : (p : Parameters) → AcceptedScheme p → Secrecy p
 secrecy p A first second h₁ h₂ e short parties in-range few =
     let N : ℕ = blocksOf p (length first) in
     let T : List ℕ = once parties in
@@ -50,42 +48,40 @@ secrecy p A first second h₁ h₂ e short parties in-range few =
     }
 
 -- the form without a scheme
-pub default-secrecy : (first second : List ℕ) → Each Byte first → Each Byte second → length first ≡ length second → length first ≤ maxMessage
-    → (parties : List ℕ) → Each (Party defaultParameters) parties → length parties ≤ defaultParameters .z
-    → Secret defaultParameters first second parties
+pub default-secrecy : Secrecy defaultParameters
 default-secrecy = secrecy defaultParameters default-accepted
 
 -- ---- how a call ends
 
 -- an answer is its outcome
 same-answer : (a a′ : Answer) → outcome a ≡ outcome a′ → a ≡ a′
-same-answer (Answered x) (Answered y) e = ap Answered (cc (ap (λ (o : Outcome). o .values) e))
-same-answer (Answered x) (Refused y) e = let z : _≡_ {A = ℕ} 0 1 = ap length (ap (λ (o : Outcome). o .values) (sym e)) in absurd (let x : ⊥ = omega arith in x)
-same-answer (Refused x) (Answered y) e = let z : _≡_ {A = ℕ} 0 1 = ap length (ap (λ (o : Outcome). o .values) e) in absurd (let x : ⊥ = omega arith in x)
+same-answer (Value x) (Value y) e = ap Value (cc (ap (λ (o : Outcome). o .values) e))
+same-answer (Value x) (Refused y) e = let z : _≡_ {A = ℕ} 0 1 = ap length (ap (λ (o : Outcome). o .values) (sym e)) in absurd (let x : ⊥ = omega arith in x)
+same-answer (Refused x) (Value y) e = let z : _≡_ {A = ℕ} 0 1 = ap length (ap (λ (o : Outcome). o .values) e) in absurd (let x : ⊥ = omega arith in x)
 same-answer (Refused x) (Refused y) e = ap Refused (ap (λ (o : Outcome). o .number) e)
 
 -- what a call wrote
-pub call-wrote : (p : Parameters) (message keys before : List ℕ) (answer : Answer) (after : List ℕ) → Call p message keys before answer after
+pub call-wrote : (p : Parameters) (message keys before : List ℕ) (answer : Answer) (after : List ℕ) → SplitCall p message keys before answer after
     → Wrote p message keys before answer after
 unfolding splitAnswer splitOutput
-call-wrote p message keys before (Answered bytes) after C =
-    let none = told-accepted (Answered bytes) _ _ (C .answered) refl .0 in
-    (C .wrote ∙ written-out p message keys before none, ap length (C .wrote) ∙ output-long p message keys before)
-call-wrote p message keys before (Refused number) after C = C .wrote ∙ sym (kept _ (told-refused (Refused number) _ _ (C .answered) refl))
+call-wrote p message keys before (Value bytes) after C =
+    let none = told-accepted (Value bytes) _ _ (C .0) refl .0 in
+    (C .1 ∙ written-out p message keys before none, ap length (C .1) ∙ output-long p message keys before)
+call-wrote p message keys before (Refused number) after C = C .1 ∙ sym (kept _ (told-refused (Refused number) _ _ (C .0) refl))
 
 -- so a call that gave this answer wrote as many bytes as the lengths say
 written-long : (p : Parameters) (message keys before : List ℕ) (answer : Answer) (after : List ℕ) → Wrote p message keys before answer after
     → written answer after ≡ written answer before
-written-long p message keys before (Answered bytes) after W = W .1
+written-long p message keys before (Value bytes) after W = W .1
 written-long p message keys before (Refused number) after W = refl
 
 same-room : (answer : Answer) (before before′ : List ℕ) → length before ≡ length before′ → written answer before ≡ written answer before′
-same-room (Answered bytes) before before′ e = e
+same-room (Value bytes) before before′ e = e
 same-room (Refused number) before before′ e = refl
 
 pub outcome-from-lengths : (p : Parameters) → OutcomeFromLengths p
 outcome-from-lengths p message message′ keys keys′ before before′ after after′ answer answer′ C C′ m k b =
-    let same : answer ≡ answer′ = same-answer answer answer′ (C .answered ∙ rw (m, k, b) (sym (C′ .answered))) in
+    let same : answer ≡ answer′ = same-answer answer answer′ (C .0 ∙ rw (m, k, b) (sym (C′ .0))) in
     let long = written-long p message keys before answer after (call-wrote p message keys before answer after C) in
     let long′ = written-long p message′ keys′ before′ answer′ after′ (call-wrote p message′ keys′ before′ answer′ after′ C′) in
     (same, long ∙ ap (λ a. written a before) same ∙ same-room answer′ before before′ b ∙ sym long′)

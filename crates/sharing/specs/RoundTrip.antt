@@ -11,7 +11,7 @@ use Rattle.lists.specs.Table.{joined}
 use Rattle.scheme.specs.Limits.{maxMessage}
 use Rattle.scheme.specs.Outcome.{accepted}
 use Rattle.scheme.specs.Readers.{Rising}
-use Rattle.staircase.specs.Parameters.{Parameters, Accepted, blocksOf, outputBytes}
+use Rattle.staircase.specs.Parameters.{Parameters, blocksOf, outputBytes}
 use Rattle.staircase.specs.Shares.{partOf, KeyString}
 use Rattle.dealer.specs.Split.{splitOutput}
 use Rattle.party.specs.Prefix.{prefixOf}
@@ -23,11 +23,10 @@ handed p message parties output =
     joined (length parties)
     (λ a. prefixOf p message (length parties) (partOf p (blocksOf p message) (getD parties a 0) output))
 
--- what was split comes back: the opener, lent these prefixes, accepts, uses every byte of them and writes the message
+-- of an accepted scheme (`round-trip` in proofs/RoundTrip.antt), what was split comes back: the opener, lent these prefixes, accepts, uses every byte of them and writes the message
 abbrev pub RoundTrip : Parameters → Type 0
 RoundTrip p =
-    Accepted p
-    → (message keys : List ℕ) → Each Byte message → length message ≤ maxMessage → KeyString p (length message) keys
+    (message keys : List ℕ) → Each Byte message → length message ≤ maxMessage → KeyString p (length message) keys
     → (parties : List ℕ) → occurs (length parties) (p .counts) ≡ true → Rising 0 (p .n) parties
     → (before out : List ℕ) → length before ≡ outputBytes p (blocksOf p (length message)) → length out ≡ length message
     → let prefixes : List ℕ = handed p (length message) parties (splitOutput p message keys before) in

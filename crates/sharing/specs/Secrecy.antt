@@ -7,11 +7,10 @@ use lib.ListN.{length}
 use Rattle.lists.specs.Each.{Each, Byte}
 use Rattle.scheme.specs.Limits.{maxMessage}
 use Rattle.scheme.specs.declared.Answer.{Answer}
-use Rattle.scheme.specs.declared.Answer.the-variants.{Accepted as Answered, Refused}
-use Rattle.scheme.specs.Outcome.{outcome}
-use Rattle.staircase.specs.Parameters.{Parameters, Accepted, Party, blocksOf, outputBytes}
+use Rattle.scheme.specs.declared.Answer.the-variants.{Value, Refused}
+use Rattle.staircase.specs.Parameters.{Parameters, Party, blocksOf, outputBytes}
 use Rattle.staircase.specs.Shares.{shares, partOf, KeyString}
-use Rattle.dealer.specs.Split.{splitRefusal, splitAnswer, splitOutput}
+use Rattle.dealer.specs.Split.{splitRefusal, splitOutput, SplitCall}
 
 -- a change of the key string under which each of these parties is written the same of either message
 pub record Secret (p : Parameters) (first second parties : List ℕ) : Type 0 where
@@ -33,33 +32,27 @@ pub record Secret (p : Parameters) (first second parties : List ℕ) : Type 0 wh
       ≡ partOf p (blocksOf p (length first)) s (splitOutput p second (change keys) before′))
       parties
 
--- for every accepted scheme, every two messages of one accepted length and every choice of at most z parties, none included
+-- of an accepted scheme (`secrecy` in proofs/Secrecy.antt): for every two messages of one accepted length and every choice of at most z parties, none included
 abbrev pub Secrecy : Parameters → Type 0
 Secrecy p =
-    Accepted p
-    → (first second : List ℕ) → Each Byte first → Each Byte second → length first ≡ length second → length first ≤ maxMessage
+    (first second : List ℕ) → Each Byte first → Each Byte second → length first ≡ length second → length first ≤ maxMessage
     → (parties : List ℕ) → Each (Party p) parties → length parties ≤ p .z
     → Secret p first second parties
 
--- a call of the splitter: what its contract says of its answer and of its output before and after
-pub record Call (p : Parameters) (message keys before : List ℕ) (answer : Answer) (after : List ℕ) : Type 0 where
-  pub answered : outcome answer ≡ splitAnswer p (length message) (length keys) (length before)
-  pub wrote : after ≡ splitOutput p message keys before
-
--- the bytes that it wrote, by its answer and its output after it: the whole output where it was accepted, none where it was refused
+-- the bytes that a call of the splitter wrote, by its answer and its output after it: the whole output where it was accepted, none where it was refused
 abbrev pub written : Answer → List ℕ → ℕ
-written (Answered bytes) after = length after
+written (Value bytes) after = length after
 written (Refused number) after = 0
 
 -- that these are the bytes it wrote: all shares, as long as the output was, or the output is what it was
 abbrev pub Wrote : Parameters → List ℕ → List ℕ → List ℕ → Answer → List ℕ → Type 0
-Wrote p message keys before (Answered bytes) after = (after ≡ shares p message keys) × (length after ≡ length before)
+Wrote p message keys before (Value bytes) after = (after ≡ shares p message keys) × (length after ≡ length before)
 Wrote p message keys before (Refused number) after = after ≡ before
 
 -- two calls with one scheme, accepted or not, and equal lengths, whatever the slices hold: the same answer, and equally many bytes written
 abbrev pub OutcomeFromLengths : Parameters → Type 0
 OutcomeFromLengths p =
     (message message′ keys keys′ before before′ after after′ : List ℕ) (answer answer′ : Answer)
-    → Call p message keys before answer after → Call p message′ keys′ before′ answer′ after′
+    → SplitCall p message keys before answer after → SplitCall p message′ keys′ before′ answer′ after′
     → length message ≡ length message′ → length keys ≡ length keys′ → length before ≡ length before′
     → (answer ≡ answer′) × (written answer after ≡ written answer′ after′)

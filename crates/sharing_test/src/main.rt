@@ -246,7 +246,7 @@ fn show_prefix(message: usize, d: usize, share: &[u8]) {
 // An answer, with a word for what it is when the call is accepted.
 fn print_answer(word: &[u8], answer: Answer) {
     match answer {
-        Answer::Accepted(value) => print(word, value as u64),
+        Answer::Value(value) => print(word, value as u64),
         Answer::Refused(number) => print(b"refused ", number as u64),
     }
 }

@@ -17,7 +17,7 @@ use Rattle.scheme.proofs.Laws.{accepted}
 use Rattle.family.specs.Message.{padded}
 use Rattle.family.specs.Family.{shareOfBlocks, sharesOfBlocks}
 use Rattle.family.proofs.Message.{length-padded}
-use Rattle.staircase.specs.Parameters.{Parameters, Accepted, block, rows, point}
+use Rattle.staircase.specs.Parameters.{Parameters, AcceptedScheme, block, rows, point}
 use Rattle.staircase.specs.Coefficients.{countOf, coefficientAt, shareByte}
 use Rattle.staircase.specs.Shares.{staircase, shares}
 use Rattle.staircase.proofs.Columns.{part-at}
@@ -32,7 +32,7 @@ getD-padded : (m : ℕ) (message : List ℕ) (i : ℕ) → getD (padded m messag
 unfolding padded
 getD-padded m message i = getD-zeros message (blockCount m (length message) * m - length message) i
 
-module _ (p : Parameters) (ok : Accepted p) (message keys : List ℕ) (enough : length keys ≡ blockCount (block p) (length message) * (rows p * p .z)) where
+module _ (p : Parameters) (ok : AcceptedScheme p) (message keys : List ℕ) (enough : length keys ≡ blockCount (block p) (length message) * (rows p * p .z)) where
   abbrev N : ℕ
   N = blockCount (block p) (length message)
 

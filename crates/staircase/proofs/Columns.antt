@@ -16,7 +16,7 @@ use Rattle.lists.proofs.Piece.{length-piece, getD-piece}
 use Rattle.interpolation.specs.Polynomial.{eval}
 use Rattle.scheme.specs.Facts as facts
 use Rattle.scheme.proofs.Laws.{accepted}
-use Rattle.staircase.specs.Parameters.{Parameters, Accepted, block, rows, point}
+use Rattle.staircase.specs.Parameters.{Parameters, AcceptedScheme, block, rows, point}
 use Rattle.staircase.specs.Rows.{rowsOf}
 use Rattle.staircase.specs.Coefficients.{countOf, origin, coefficientAt}
 use Rattle.staircase.specs.Opening.{blockRow}
@@ -24,8 +24,8 @@ use Rattle.staircase.specs.Shares.{staircase}
 use Rattle.staircase.proofs.Origin.{origin-below}
 use Rattle.staircase.proofs.Rows.{rows-are, rows-number, coefficient-key, coefficient-byte}
 
-module _ (p : Parameters) (ok : Accepted p) where
-  known : facts.Accepted (p .n) (p .r) (p .z) (p .counts) (block p) (rows p)
+module _ (p : Parameters) (ok : AcceptedScheme p) where
+  known : facts.SchemeFacts (p .n) (p .r) (p .z) (p .counts) (block p) (rows p)
   known = accepted (p .n) (p .r) (p .z) (p .counts) ok
 
   -- ---- one block

@@ -15,17 +15,17 @@ use Rattle.scheme.specs.Check.{rowsOfCount}
 use Rattle.scheme.specs.Facts as Facts
 use Rattle.scheme.proofs.Laws.{accepted}
 use Rattle.family.specs.Exactness as family
-use Rattle.staircase.specs.Parameters.{Parameters, Accepted, Party, block, rows, point}
+use Rattle.staircase.specs.Parameters.{Parameters, AcceptedScheme, Party, block, rows, point}
 use Rattle.staircase.specs.Shares.{staircase}
-use Rattle.staircase.specs.Opening.{blockRow, HasValues, BlockExact, openedBlock, openedKeys}
+use Rattle.staircase.specs.Opening.{blockRow, HasValues, RowsExact, openedBlock, openedKeys}
 use Rattle.staircase.proofs.Points.{points-bytes, points-distinct}
 use Rattle.staircase.proofs.Groups.{rows-most}
 use Rattle.staircase.proofs.Columns.{column-at}
 use Rattle.staircase.proofs.Opening.{block-exact}
 
-module _ (p : Parameters) (A : Accepted p) (i : ℕ) (at : i < length (p .counts)) (parties : List ℕ) (in-range : Each (Party p) parties) (apart : Distinct parties)
+module _ (p : Parameters) (A : AcceptedScheme p) (i : ℕ) (at : i < length (p .counts)) (parties : List ℕ) (in-range : Each (Party p) parties) (apart : Distinct parties)
     (many : length parties ≡ getD (p .counts) i 0) where
-  abbrev facts : Facts.Accepted (p .n) (p .r) (p .z) (p .counts) (block p) (rows p)
+  abbrev facts : Facts.SchemeFacts (p .n) (p .r) (p .z) (p .counts) (block p) (rows p)
   facts = accepted (p .n) (p .r) (p .z) (p .counts) A
 
   abbrev xs : List ℕ
@@ -41,7 +41,7 @@ module _ (p : Parameters) (A : Accepted p) (i : ℕ) (at : i < length (p .counts
   sent-most : sent ≤ rows p
   sent-most = rw many (rows-most (p .n) (p .r) (p .z) (p .counts) (block p) (rows p) facts i at)
 
-  exact : BlockExact (block p) (rows p) (p .z) (p .counts) xs
+  exact : RowsExact (block p) (rows p) (p .z) (p .counts) xs
   exact = block-exact (p .n) (p .r) (p .z) (p .counts) (block p) (rows p) facts i at xs (points-bytes p A parties in-range) (points-distinct p A parties in-range apart) (as-many ∙ many)
 
   -- what a party has of a row is the row's value at its point

@@ -8,7 +8,7 @@ use Rattle.lists.specs.Table.{tabulate, joined, piece, pieces, flat}
 use Rattle.gf256.specs.Byte as byte
 use Rattle.gf256.specs.Byte.{_⊕_, _⊗_, cut, reduce}
 use Rattle.interpolation.specs.Polynomial.{next, eval}
-use Rattle.scheme.specs.BlockLength.{divides, firstFrom, product, blockLength}
+use Rattle.scheme.specs.BlockLength.{divides, firstFrom, commonMultiple, blockLength}
 use Rattle.scheme.specs.Check.{rowsOfCount, rowsOfBlock, blockCount}
 use Rattle.family.specs.Message.{padded}
 use Rattle.family.specs.Family.{shareOfBlocks, sharesOfBlocks}
@@ -29,5 +29,5 @@ pub examples :
     ∷ 14 ∷ 128 ∷ 23 ∷ 188 ∷ 214
     ∷ 170 ∷ 74 ∷ 130 ∷ 250 ∷ 240
     ∷ 206 ∷ 133 ∷ 215 ∷ 123 ∷ 89 ∷ [])
-unfolding shares sharesOfBlocks shareOfBlocks staircase padded blockCount blockLength firstFrom product divides rowsOfBlock rowsOfCount rowsOf withGroups keyed rowOf copied pieces flat piece tabulate joined point eval next _⊕_ _⊗_ byte.product reduce cut
+unfolding shares sharesOfBlocks shareOfBlocks staircase padded blockCount blockLength firstFrom commonMultiple divides rowsOfBlock rowsOfCount rowsOf withGroups keyed rowOf copied pieces flat piece tabulate joined point eval next _⊕_ _⊗_ byte.product reduce cut
 examples = (refl, refl, refl)

@@ -54,7 +54,7 @@ module _ (m z j : ℕ) where
 
 -- ---- an accepted scheme
 
-module _ (n r z : ℕ) (ds : List ℕ) (m b : ℕ) (A : facts.Accepted n r z ds m b) where
+module _ (n r z : ℕ) (ds : List ℕ) (m b : ℕ) (A : facts.SchemeFacts n r z ds m b) where
   -- every count is above z
   pub count-above : (i : ℕ) → i < length ds → z < getD ds i 0
   count-above i h = omega (arith, A .low i h, A .sizes .room)

@@ -17,7 +17,7 @@ use Rattle.family.specs.Secrecy.{sum, Hidden, Mask}
 use Rattle.family.proofs.Message.{padded-bytes, block-bytes}
 use Rattle.family.proofs.Shares.{length-share}
 use Rattle.family.proofs.Mask.{hidden, blocks-mask}
-use Rattle.staircase.specs.Parameters.{Parameters, Accepted, Party, block, rows}
+use Rattle.staircase.specs.Parameters.{Parameters, AcceptedScheme, Party, block, rows}
 use Rattle.staircase.specs.Shares.{staircase, shares, partOf}
 use Rattle.staircase.proofs.Secrecy.{block-mask}
 
@@ -34,7 +34,7 @@ part-is-share p message keys s h =
     (λ i _. length-share (staircase p) N blocks keys (i + 1)) (s - 1) (omega arith)
     ∙ ap (shareOfBlocks (staircase p) N blocks keys) e
 
-module _ (p : Parameters) (A : Accepted p) (parties : List ℕ) (in-range : Each (Party p) parties) (apart : Distinct parties) (few : length parties ≤ p .z) where
+module _ (p : Parameters) (A : AcceptedScheme p) (parties : List ℕ) (in-range : Each (Party p) parties) (apart : Distinct parties) (few : length parties ≤ p .z) where
   blocks-masked : (N : ℕ) (first second : List ℕ) → Bytes (N * block p) first → Bytes (N * block p) second
       → Mask (N * staircase p .keys) (λ keys. map (shareOfBlocks (staircase p) N first keys) parties) (λ keys. map (shareOfBlocks (staircase p) N second keys) parties)
   unfolding staircase

@@ -22,7 +22,7 @@ use Rattle.scheme.specs.Check.{rowsOfCount}
 use Rattle.scheme.specs.Facts as facts
 use Rattle.family.specs.Message.{Bytes}
 use Rattle.staircase.specs.Coefficients.{origin, coefficient}
-use Rattle.staircase.specs.Opening.{blockRow, upperPart, lowerPart, openedFrom, openedBlock, openedLower, openedKeys, HasValues, BlockExact}
+use Rattle.staircase.specs.Opening.{blockRow, upperPart, lowerPart, openedFrom, openedBlock, openedLower, openedKeys, HasValues, RowsExact}
 use Rattle.staircase.proofs.Rows.{coefficient-key, coefficient-byte}
 use Rattle.staircase.proofs.Order.{Order, order}
 use Rattle.staircase.proofs.OneRow.{upper-same, row-parts, row-first, row-lower, lower-length, lower-byte, lower-same, lower-values, lower-found}
@@ -171,8 +171,8 @@ module _ (m b z : ℕ) (ds xs : List ℕ) (v : ℕ → ℕ → ℕ) (O : Order m
           keys-at j e h l ∙ found P j e (omega arith) h (omega (arith, O .above)) ∙ coefficient-key m z ds block keys j e l
 
 -- d parties open a block exactly, d the count at place i
-pub block-exact : (n r z : ℕ) (ds : List ℕ) (m b : ℕ) → facts.Accepted n r z ds m b → (i : ℕ) → i < length ds
-    → (xs : List ℕ) → Each Byte xs → Distinct xs → length xs ≡ getD ds i 0 → BlockExact m b z ds xs
+pub block-exact : (n r z : ℕ) (ds : List ℕ) (m b : ℕ) → facts.SchemeFacts n r z ds m b → (i : ℕ) → i < length ds
+    → (xs : List ℕ) → Each Byte xs → Distinct xs → length xs ≡ getD ds i 0 → RowsExact m b z ds xs
 block-exact n r z ds m b A i hi xs bytes apart long =
     let O : Order m b z ds (length xs) (rowsOfCount m z (length xs))
     = order n r z ds m b A i (length xs) (rowsOfCount m z (length xs)) hi long refl in

@@ -50,7 +50,7 @@ sooner first q le e s =
       is = s .is ∙ e;
     }
 
-module _ (n r z : ℕ) (ds : List ℕ) (m b : ℕ) (A : facts.Accepted n r z ds m b) (i d P : ℕ) (hi : i < length ds) (d-is : d ≡ getD ds i 0)
+module _ (n r z : ℕ) (ds : List ℕ) (m b : ℕ) (A : facts.SchemeFacts n r z ds m b) (i d P : ℕ) (hi : i < length ds) (d-is : d ≡ getD ds i 0)
     (P-is : P ≡ rowsOfCount m z d) where
   in-first : (j : ℕ) → j < P → j < rowsOfCount m z (getD ds i 0)
   in-first j h = rw (P-is, d-is) at h

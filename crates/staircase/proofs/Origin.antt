@@ -55,7 +55,7 @@ pub record Forward (m z : ℕ) (ds : List ℕ) (i j e j′ e′ : ℕ) : Type 0 
   pub high : e′ < getD ds (i + 1) 0
   pub same : origin m z ds j′ e′ ≡ origin m z ds j e
 
-module _ (n r z : ℕ) (ds : List ℕ) (m b : ℕ) (A : facts.Accepted n r z ds m b) where
+module _ (n r z : ℕ) (ds : List ℕ) (m b : ℕ) (A : facts.SchemeFacts n r z ds m b) where
   -- a row j of a later group i, of the count d after the count `above`
   module _ (j e i d above q : ℕ) (hj : j < b) (hi : i ≡ groupOf m z ds j) (pos : 0 < i) (hd : d ≡ getD ds i 0)
       (ha : above ≡ getD ds (i - 1) 0) (hq : q ≡ (j - rowsOfCount m z above) * (d - z) + (e - z)) (he : e < d) where

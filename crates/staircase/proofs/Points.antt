@@ -7,9 +7,9 @@ use Prim.Native.Nat.{ℕ}
 use native.Mathlib.Omega.{arith}
 use Rattle.lists.specs.Each.{Each, Distinct, Byte}
 use Rattle.scheme.proofs.Laws.{accepted}
-use Rattle.staircase.specs.Parameters.{Parameters, Accepted, Party, point}
+use Rattle.staircase.specs.Parameters.{Parameters, AcceptedScheme, Party, point}
 
-module _ (p : Parameters) (A : Accepted p) where
+module _ (p : Parameters) (A : AcceptedScheme p) where
   pub point-byte : (s : ℕ) → Party p s → Byte (point p s)
   unfolding point
   point-byte s h =

@@ -127,7 +127,7 @@ row-at : (m z : ℕ) (ds block keys : List ℕ) (i j : ℕ) → groupOf m z ds j
 unfolding blockRow countOf
 row-at m z ds block keys i j e = rw e
 
-module _ (n r z : ℕ) (ds : List ℕ) (m b : ℕ) (A : facts.Accepted n r z ds m b) (block keys : List ℕ) (whole : length block ≡ m)
+module _ (n r z : ℕ) (ds : List ℕ) (m b : ℕ) (A : facts.SchemeFacts n r z ds m b) (block keys : List ℕ) (whole : length block ≡ m)
     (enough : length keys ≡ b * z) where
   enough-for : (p : ℕ) → p ≤ b → p * z ≤ length keys
   enough-for p l = omega (arith, mul-le-mul-right z l)
@@ -258,7 +258,7 @@ unfolding rowsOf
 rows-begin m z [] block keys h = absurd (not-suc-le-zero h)
 rows-begin m z (d ∷ ds) block keys h = refl
 
-pub rows-are : (n r z : ℕ) (ds : List ℕ) (m b : ℕ) → facts.Accepted n r z ds m b → (block keys : List ℕ) → length block ≡ m → length keys ≡ b * z
+pub rows-are : (n r z : ℕ) (ds : List ℕ) (m b : ℕ) → facts.SchemeFacts n r z ds m b → (block keys : List ℕ) → length block ≡ m → length keys ≡ b * z
     → rowsOf m z ds block keys ≡ tabulate b (blockRow m z ds block keys)
 rows-are n r z ds m b A block keys whole enough =
     let u = rest-groups n r z ds m b A block keys whole enough (drop 1 ds) 0 (A .some) refl
@@ -267,7 +267,7 @@ rows-are n r z ds m b A block keys whole enough =
     ∙ tabulate-is (withGroups m z keys (getD ds 0 0) (keyed z keys (pieces (rowsOfCount m z (getD ds 0 0)) (getD ds 0 0 - z) block)) (drop 1 ds))
     b (blockRow m z ds block keys) [] (u .number ∙ A .last-rows) (λ j h. u .each j (rw (A .last-rows) h))
 
-pub rows-number : (n r z : ℕ) (ds : List ℕ) (m b : ℕ) → facts.Accepted n r z ds m b → (block keys : List ℕ) → length block ≡ m → length keys ≡ b * z
+pub rows-number : (n r z : ℕ) (ds : List ℕ) (m b : ℕ) → facts.SchemeFacts n r z ds m b → (block keys : List ℕ) → length block ≡ m → length keys ≡ b * z
     → length (rowsOf m z ds block keys) ≡ b
 rows-number n r z ds m b A block keys whole enough =
     rw (rows-are n r z ds m b A block keys whole enough, length-tabulate)

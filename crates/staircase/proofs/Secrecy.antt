@@ -24,7 +24,7 @@ use Rattle.family.specs.Secrecy.{sum, Mask}
 use Rattle.family.proofs.Sum.{length-sum, getD-sum, piece-sum}
 use Rattle.scheme.specs.Facts as Facts
 use Rattle.scheme.proofs.Laws.{accepted}
-use Rattle.staircase.specs.Parameters.{Parameters, Accepted, Party, block, rows, point}
+use Rattle.staircase.specs.Parameters.{Parameters, AcceptedScheme, Party, block, rows, point}
 use Rattle.staircase.specs.Rows.{rowOf}
 use Rattle.staircase.specs.Coefficients.{groupOf, countOf, origin, coefficient}
 use Rattle.staircase.specs.Opening.{blockRow}
@@ -96,9 +96,9 @@ row-split m z ds block keys b j e h low =
 
 -- ---- a block, seen by some parties
 
-module _ (p : Parameters) (A : Accepted p) (parties : List ℕ) (in-range : Each (Party p) parties) (apart : Distinct parties) (few : length parties ≤ p .z)
+module _ (p : Parameters) (A : AcceptedScheme p) (parties : List ℕ) (in-range : Each (Party p) parties) (apart : Distinct parties) (few : length parties ≤ p .z)
     (first second : List ℕ) (h₁ : Bytes (block p) first) (h₂ : Bytes (block p) second) where
-  abbrev facts : Facts.Accepted (p .n) (p .r) (p .z) (p .counts) (block p) (rows p)
+  abbrev facts : Facts.SchemeFacts (p .n) (p .r) (p .z) (p .counts) (block p) (rows p)
   facts = accepted (p .n) (p .r) (p .z) (p .counts) A
 
   abbrev points : List ℕ

@@ -13,7 +13,7 @@ use Rattle.scheme.specs.Facts.{SchemeIs}
 use Rattle.scheme.specs.Limits.{maxParties, maxBlock, maxMessage}
 use Rattle.scheme.specs.Check.{rowsOfCount, rowsOfBlock, blockCount}
 use Rattle.scheme.proofs.Laws.{accepted}
-use Rattle.staircase.specs.Parameters.{Parameters, Accepted, block, rows}
+use Rattle.staircase.specs.Parameters.{Parameters, AcceptedScheme, block, rows}
 use Rattle.staircase.proofs.Groups as groups
 
 -- P is no more than the block length
@@ -21,7 +21,7 @@ pub rows-few : (m z d P : ℕ) → m ≤ maxBlock → P ≡ rowsOfCount m z d �
 unfolding rowsOfCount
 rows-few m z d P h e = rw e (le-trans (div-le-self m (d - z)) h)
 
-module _ (p : Parameters) (good : Accepted p) where
+module _ (p : Parameters) (good : AcceptedScheme p) where
   pub block-most : block p ≤ maxBlock
   block-most = accepted (p .n) (p .r) (p .z) (p .counts) good .limit
 

@@ -14,10 +14,11 @@ use Rattle.lists.proofs.Each.{occurs-place}
 use Rattle.lists.proofs.Joined.{below-product, place-in}
 use Rattle.lists.proofs.Piece.{getD-piece}
 use Rattle.scheme.specs.Check.{blockCount, rowsOfCount}
+use Rattle.scheme.proofs.Laws.{default-accepted}
 use Rattle.family.specs.Message.{Bytes}
 use Rattle.family.specs.Exactness as family
 use Rattle.family.proofs.Exactness.{blocks-exact}
-use Rattle.staircase.specs.Parameters.{Parameters, Accepted, Party, block, rows, point}
+use Rattle.staircase.specs.Parameters.{Parameters, AcceptedScheme, Party, defaultParameters, block, rows, point}
 use Rattle.staircase.specs.Shares.{staircase}
 use Rattle.staircase.specs.Opening.{openedBlock}
 use Rattle.staircase.specs.Exactness.{prefixBytes, openedString, Opened, Exactness}
@@ -29,7 +30,7 @@ pub keys-number : (p : Parameters) (N : ℕ) → N * staircase p .keys ≡ N * p
 unfolding staircase
 keys-number p N = ap (λ (k : ℕ). N * k) (mul-comm (rows p) (p .z)) ∙ sym (mul-assoc N (p .z) (rows p))
 
-module _ (p : Parameters) (A : Accepted p) (parties : List ℕ) (counted : occurs (length parties) (p .counts) ≡ true) (apart : Distinct parties) (inside : Each (Party p) parties) where
+module _ (p : Parameters) (A : AcceptedScheme p) (parties : List ℕ) (counted : occurs (length parties) (p .counts) ≡ true) (apart : Distinct parties) (inside : Each (Party p) parties) where
   abbrev sent : ℕ
   sent = rowsOfCount (block p) (p .z) (length parties)
 
@@ -76,5 +77,9 @@ module _ (p : Parameters) (A : Accepted p) (parties : List ℕ) (counted : occur
             ∙ key-at N t j e keys′ hj he;
       }
 
-pub exactness : (p : Parameters) → Exactness p
+pub exactness : (p : Parameters) → AcceptedScheme p → Exactness p
 exactness p A message short parties counted apart inside prefixes h = opened p A parties counted apart inside message prefixes h
+
+-- the form without a scheme
+pub default-exactness : Exactness defaultParameters
+default-exactness = exactness defaultParameters default-accepted

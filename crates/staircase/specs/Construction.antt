@@ -8,15 +8,14 @@ use Rattle.lists.specs.Each.{Each, Byte}
 use Rattle.gf256.specs.Byte.{_⊗_, power}
 use Rattle.interpolation.specs.Polynomial.{sumTo}
 use Rattle.family.specs.Message.{padded}
-use Rattle.staircase.specs.Parameters.{Parameters, Accepted, Party, block, rows, blocksOf, point}
+use Rattle.staircase.specs.Parameters.{Parameters, Party, block, rows, blocksOf, point}
 use Rattle.staircase.specs.Coefficients.{countOf, coefficientAt}
 use Rattle.staircase.specs.Shares.{shares, KeyString}
 
--- in the share of party s the byte of row j of block t is the sum of the row's coefficients times the powers of the party's point
+-- of an accepted scheme (`output-byte` in proofs/Construction.antt): in the share of party s the byte of row j of block t is the sum of the row's coefficients times the powers of the party's point
 abbrev pub Construction : Parameters → Type 0
 Construction p =
-    Accepted p
-    → (message keys : List ℕ) → Each Byte message → KeyString p (length message) keys
+    (message keys : List ℕ) → Each Byte message → KeyString p (length message) keys
     → (s j t : ℕ) → Party p s → j < rows p → t < blocksOf p (length message)
     → getD (shares p message keys) ((s - 1) * (rows p * blocksOf p (length message)) + j * blocksOf p (length message) + t) 0
     ≡ sumTo (countOf (block p) (p .z) (p .counts) j)

@@ -10,7 +10,7 @@ use Rattle.scheme.specs.Limits.{maxMessage}
 use Rattle.family.specs.Message.{Bytes}
 use Rattle.family.specs.Exactness as family
 use Rattle.family.specs.Exactness.{openedBlocks}
-use Rattle.staircase.specs.Parameters.{Parameters, Accepted, Party, block, rows, prefixRows, blocksOf, point}
+use Rattle.staircase.specs.Parameters.{Parameters, Party, block, rows, prefixRows, blocksOf, point}
 use Rattle.staircase.specs.Shares.{staircase, KeyString}
 use Rattle.staircase.specs.Opening.{openedBlock}
 
@@ -25,8 +25,8 @@ openedString p parties N prefixes =
     (openedBlock (block p) (p .z) (p .counts) (map (point p) parties)) N prefixes
 
 -- these N whole blocks under these keys give the parties the prefixes: at each place of the list, the first P × N bytes of that party's share
-abbrev pub Gives : Parameters → List ℕ → ℕ → List ℕ → List ℕ → List ℕ → Type 0
-Gives p parties N blocks keys prefixes = family.Gives (staircase p) parties (prefixRows p (length parties)) N blocks keys prefixes
+abbrev pub GivesPrefixes : Parameters → List ℕ → ℕ → List ℕ → List ℕ → List ℕ → Type 0
+GivesPrefixes p parties N blocks keys prefixes = family.Gives (staircase p) parties (prefixRows p (length parties)) N blocks keys prefixes
 
 -- what the prefixes of a message of so many bytes open to
 pub record Opened (p : Parameters) (message : ℕ) (parties prefixes : List ℕ) : Type 0 where
@@ -34,22 +34,21 @@ pub record Opened (p : Parameters) (message : ℕ) (parties prefixes : List ℕ)
   pub bytes : Bytes (blocksOf p message * block p) (openedString p parties (blocksOf p message) prefixes)
   -- that some keys turn into these prefixes
   pub exists : (keys : List ℕ) × KeyString p message keys
-      × Gives p parties (blocksOf p message) (openedString p parties (blocksOf p message) prefixes) keys prefixes
+      × GivesPrefixes p parties (blocksOf p message) (openedString p parties (blocksOf p message) prefixes) keys prefixes
   -- and no other blocks do, whatever their padding and keys
   pub unique : (blocks keys : List ℕ) → Bytes (blocksOf p message * block p) blocks → KeyString p message keys
-      → Gives p parties (blocksOf p message) blocks keys prefixes → blocks ≡ openedString p parties (blocksOf p message) prefixes
+      → GivesPrefixes p parties (blocksOf p message) blocks keys prefixes → blocks ≡ openedString p parties (blocksOf p message) prefixes
   -- the keys of the first P rows of each block are determined too
   pub keys-unique : (blocks blocks′ keys keys′ : List ℕ) → Bytes (blocksOf p message * block p) blocks
       → Bytes (blocksOf p message * block p) blocks′ → KeyString p message keys → KeyString p message keys′
-      → Gives p parties (blocksOf p message) blocks keys prefixes → Gives p parties (blocksOf p message) blocks′ keys′ prefixes
+      → GivesPrefixes p parties (blocksOf p message) blocks keys prefixes → GivesPrefixes p parties (blocksOf p message) blocks′ keys′ prefixes
       → (t j e : ℕ) → t < blocksOf p message → j < prefixRows p (length parties) → e < p .z
       → getD keys ((t * rows p + j) * p .z + e) 0 ≡ getD keys′ ((t * rows p + j) * p .z + e) 0
 
--- for every accepted scheme and length, every list of as many distinct parties as a count, and every string of as many bytes as their prefixes have
+-- of an accepted scheme (`exactness` in proofs/WholeBlocks.antt): for every length, every list of as many distinct parties as a count, and every string of as many bytes as their prefixes have
 abbrev pub Exactness : Parameters → Type 0
 Exactness p =
-    Accepted p
-    → (message : ℕ) → message ≤ maxMessage
+    (message : ℕ) → message ≤ maxMessage
     → (parties : List ℕ) → occurs (length parties) (p .counts) ≡ true → Distinct parties → Each (Party p) parties
     → (prefixes : List ℕ) → Bytes (prefixBytes p (length parties) (blocksOf p message)) prefixes
     → Opened p message parties prefixes

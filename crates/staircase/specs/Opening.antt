@@ -61,7 +61,7 @@ HasValues m z ds xs v block keys =
     (j a : ℕ) → j < rowsOfCount m z (length xs) → a < length xs → eval (getD xs a 0) (blockRow m z ds block keys j) ≡ v j a
 
 -- any bytes are the values at the points of the P rows of the opened block, and such values fix the block and the keys of these rows
-pub record BlockExact (m b z : ℕ) (ds xs : List ℕ) : Type 0 where
+pub record RowsExact (m b z : ℕ) (ds xs : List ℕ) : Type 0 where
   pub exists : (v : ℕ → ℕ → ℕ) → ((j a : ℕ) → j < rowsOfCount m z (length xs) → a < length xs → Byte (v j a))
       → HasValues m z ds xs v (openedBlock m z ds xs v) (openedKeys m b z ds xs v)
   pub block-bytes : (v : ℕ → ℕ → ℕ) → Bytes m (openedBlock m z ds xs v)

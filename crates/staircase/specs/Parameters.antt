@@ -3,6 +3,7 @@
 use mathlib.Core.Path.{_≡_}
 use mathlib.Core.List.{List}
 use Prim.Native.Nat.{ℕ, _*_, _≤_}
+use Rattle.scheme.specs.declared.Scheme.{Scheme}
 use Rattle.scheme.specs.Limits.{defaultN, defaultR, defaultZ, defaultCounts}
 use Rattle.scheme.specs.BlockLength.{blockLength}
 use Rattle.scheme.specs.Check.{refusal, rowsOfCount, rowsOfBlock, blockCount}
@@ -40,8 +41,8 @@ abbrev pub outputBytes : Parameters → ℕ → ℕ
 outputBytes p N = p .n * N * rows p
 
 -- no refusal of the scheme's place applies
-abbrev pub Accepted : Parameters → Type 0
-Accepted p = refusal (p .n) (p .r) (p .z) (p .counts) ≡ 0
+abbrev pub AcceptedScheme : Parameters → Type 0
+AcceptedScheme p = refusal (p .n) (p .r) (p .z) (p .counts) ≡ 0
 
 -- a party's number (document 01's site)
 abbrev pub Party : Parameters → ℕ → Type 0
@@ -53,6 +54,10 @@ point p s = s
 
 abbrev pub parameters : ℕ → ℕ → ℕ → List ℕ → Parameters
 parameters n r z counts = record { n = n; r = r; z = z; counts = counts }
+
+-- those of the scheme that the check answered, with its counts
+abbrev pub parametersOf : Scheme → List ℕ → Parameters
+parametersOf s counts = parameters (s .n) (s .r) (s .z) counts
 
 -- those of the default scheme, for the calls without one
 abbrev pub defaultParameters : Parameters

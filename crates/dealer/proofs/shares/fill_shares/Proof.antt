@@ -69,7 +69,7 @@ rule s = λ a.
 
 -- the numbers of an accepted scheme
 module _ (s : tie.Start Inv-batch μ-batch Inv-row μ-row) where
-  known : facts.Accepted (s .args .s .n) (s .args .s .r) (s .args .s .z) (s .args .counts .now) (s .args .s .block) (s .args .s .rows)
+  known : facts.SchemeFacts (s .args .s .n) (s .args .s .r) (s .args .s .z) (s .args .counts .now) (s .args .s .block) (s .args .s .rows)
   known = facts-of (s .args .s) (s .args .counts .now) (s .pre .0)
 
   few-rows : s .args .s .rows ≤ maxBlock

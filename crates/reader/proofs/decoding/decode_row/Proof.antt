@@ -10,7 +10,7 @@ use lib.ListN.{length}
 use borrow.Author.Needs.{needs}
 use Rattle.gf256.specs.Lanes.{lanes}
 use Rattle.columns.proofs.Laws.{batch-fits}
-use Rattle.reader.specs.Decoding.{maxUsize, BasisOf, RowOf, Holds, Solved}
+use Rattle.reader.specs.Decoding.{maxUsize, BasisOf, RowOf, HasPlaces, Solved}
 use Rattle.reader.proofs.Writes.{solved-start, solved-batch}
 use Rattle.reader.proofs.decoding.decode_row.Statement.{statement}
 use Rattle.reader.proofs.decoding.decode_row.Tie as tie
@@ -19,7 +19,7 @@ abbrev Inv-loop : tie.InvT-loop
 Inv-loop sizes prefixes points places top q used₀ work₀ basis blocks t₀ used work t =
     (t ≤ blocks) × (used ≡ used₀ + sizes .d * t) × (length work ≡ length work₀)
     × ((B : List ℕ) → BasisOf points basis → RowOf sizes top q places points prefixes B
-    → Holds 0 (sizes .blocks) (sizes .block) (sizes .d) top places B work₀
+    → HasPlaces 0 (sizes .blocks) (sizes .block) (sizes .d) top places B work₀
     → Solved 0 t (sizes .block) (sizes .z) (sizes .d) places B work₀ work)
 
 abbrev μ-loop : tie.MeasureT-loop

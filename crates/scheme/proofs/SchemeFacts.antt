@@ -73,7 +73,7 @@ positive-factor zero a m h e = omega (arith, zero-mul a)
 positive-factor (suc p) a m h e = omega arith
 
 pub accepted : (n r z : ℕ) (ds : List ℕ) → refusal n r z ds ≡ 0
-    → facts.Accepted n r z ds (blockLength z ds) (rowsOfBlock n r z (blockLength z ds))
+    → facts.SchemeFacts n r z ds (blockLength z ds) (rowsOfBlock n r z (blockLength z ds))
 accepted n r z ds e =
     let p = passed n r z ds e in
     let s = sizes n r z (p .parties) (p .thresholds) in
