@@ -5,24 +5,29 @@ use mathlib.Core.Path.{_≡_, refl, sym, ap, _∙_}
 use mathlib.Core.Bool.{Bool, true, false, _||_, not, or-assoc, true≢false}
 use mathlib.Core.Logic.{_⊎_, inl, inr, ⊎-elim, _↔_, _≢_}
 use mathlib.Core.List.{List, [], _∷_, _++_}
-use Prim.Native.Nat.{ℕ, suc, _+_, _≤_, _<_}
+use Prim.Native.Nat.{ℕ, zero, suc, _+_, _≤_, _<_}
 use native.Mathlib.Omega.{arith}
 use lib.Dec.{ltb, leb, eqb}
-use lib.ListN.{length, getD}
+use lib.ListN.{length, getD, take}
 use borrow.Author.Tests.{ltb-true, ltb-false, leb-true, leb-false, eqb-true, eqb-false, not-true, not-false}
 use Rattle.lists.specs.Each.{Each, occurs}
 use Rattle.lists.proofs.Each.{occurs-false, false-occurs, each-imp, each-append}
 use Rattle.scheme.specs.declared.Answer.{Answer}
 use Rattle.scheme.specs.declared.Answer.the-variants.{Value, Refused}
-use Rattle.scheme.specs.Limits.{maxBlock}
-use Rattle.scheme.specs.Outcome.{accepted, refused, outcome, numberIf, firstOf, answer}
+use Rattle.scheme.specs.declared.Scheme.{Scheme}
+use Rattle.scheme.specs.declared.SchemeAnswer.{SchemeAnswer}
+use Rattle.scheme.specs.declared.SchemeAnswer.the-variants.{Accepted, Refused as SchemeRefused}
+use Rattle.scheme.specs.Limits.{maxBlock, defaultN, defaultR, defaultZ, defaultCounts}
+use Rattle.scheme.specs.Outcome.{accepted, refused, outcome, schemeOutcome, numberIf, firstOf, answer}
 use Rattle.scheme.specs.BlockLength.{blockLength}
-use Rattle.scheme.specs.Check.{falls, partiesRefused, thresholdsRefused, countsRefused, blockRefused, refusal}
+use Rattle.scheme.specs.Check.{falls, partiesRefused, thresholdsRefused, countsRefused, blockRefused, refusal, checked}
+use Rattle.scheme.specs.Facts.{SchemeIs}
 use Rattle.scheme.specs.Readers.{readersRefused, Rising}
-use Rattle.scheme.specs.Grounds.{Ground, ground, NoneApplies, FirstApplies, AnsweredBy, BlockTooLong, CountsWrong, schemeGrounds}
+use Rattle.scheme.specs.Grounds.{Ground, ground, NoneApplies, FirstApplies, AnsweredBy, BlockTooLong, CountsWrong, schemeGrounds, RefusedFour, Admissible, CheckedBy}
 use Rattle.scheme.proofs.BlockLength.{block-least, block-above, least-above, least-unique}
 use Rattle.scheme.proofs.Counts.{falls-at, falls-not}
-use Rattle.scheme.proofs.Answers.{stop, numbered, answered-none, answered-some, told-accepted}
+use Rattle.scheme.proofs.Answers.{stop, numbered, answered-none, answered-some, told-accepted, scheme-told}
+use Rattle.scheme.proofs.SchemeFacts as facts
 use Rattle.scheme.proofs.Parties.{readers-rise, readers-pass}
 
 -- ---- a test and what it tests
@@ -144,6 +149,11 @@ first-after : (grounds more : List Ground) (q : ℕ) → NoneApplies grounds →
 first-after [] more q n f = f
 first-after (g ∷ grounds) more q n f = inr (n .0, first-after grounds more q (n .1) f)
 
+first-only : (grounds more : List Ground) (q : ℕ) → NoneApplies grounds → FirstApplies q (grounds ++ more) → FirstApplies q more
+first-only [] more q n f = f
+first-only (g ∷ grounds) more q n (inl a) = absurd (n .0 (a .0))
+first-only (g ∷ grounds) more q n (inr f) = first-only grounds more q (n .1) (f .1)
+
 nested : {ks qs : List ℕ} {grounds more : List Ground} → Tested ks grounds → Tested qs more → Tested (firstOf ks ∷ qs) (grounds ++ more)
 unfolding firstOf
 nested {ks} {qs} {grounds} {more} (none e n) rest = rw e (by rest)
@@ -186,3 +196,90 @@ pub after-scheme : (n r z : ℕ) (ds : List ℕ) {qs : List ℕ} {grounds : List
 unfolding refusal partiesRefused thresholdsRefused
 after-scheme n r z ds rest =
     nested (line (either above above) (line (either same at-least) (line (counts-wrong n r ds) (line (block-too-long z ds) end)))) rest
+
+-- ---- the check
+
+first-alone : (q : ℕ) → firstOf (q ∷ []) ≡ q
+unfolding firstOf
+first-alone zero = refl
+first-alone (suc q) = numbered (stop {q = suc q} {qs = []} (omega arith))
+
+module _ (n r z : ℕ) (ds : List ℕ) where
+  scheme-tested : Tested (refusal n r z ds ∷ []) (schemeGrounds n r z ds)
+  scheme-tested = after-scheme n r z ds end
+
+  pub refused-four : RefusedFour n r z ds
+  refused-four passed m least =
+      let four = first-applies {q = 4} scheme-tested (omega arith) in
+      let three : List Ground = take 3 (schemeGrounds n r z ds) in
+      let last : List Ground = ground 4 (BlockTooLong z ds) ∷ [] in (
+        λ e.
+            ⊎-elim (λ long. rw (least-unique least (long .0 .1)) (long .0 .2)) (λ no. absurd (no .1))
+            (first-only three last 4 passed (four .0 (first-alone (refusal n r z ds) ∙ e))),
+        λ long. sym (first-alone (refusal n r z ds)) ∙ four .1 (first-after three last 4 passed (inl ((m, least, long), refl))),
+      )
+
+  counts-right : Admissible n r z ds → CountsWrong n r ds → ⊥
+  counts-right h (inl empty) = omega (arith, h .some)
+  counts-right h (inr (inl many)) = omega (arith, h .most)
+  counts-right h (inr (inr (inl flat))) = omega (arith, h .falling (flat .0) (flat .1), flat .2)
+  counts-right h (inr (inr (inr (inl high)))) = omega (arith, h .top)
+  counts-right h (inr (inr (inr (inr last)))) = last (h .bottom)
+
+  none-of : Admissible n r z ds → NoneApplies (schemeGrounds n r z ds)
+  none-of h =
+      let block = h .block in (
+        ⊎-elim (λ low. omega (arith, h .parties-low)) (λ high. omega (arith, h .parties-high)),
+        (
+          ⊎-elim (λ low. omega (arith, h .threshold)) (λ full. omega (arith, h .room)),
+          (counts-right h, (λ long. omega (arith, block .2, long .2, least-unique (block .1) (long .1)), tt)),
+        ),
+      )
+
+  admissible : refusal n r z ds ≡ 0 → Admissible n r z ds
+  admissible e =
+      let f = facts.accepted n r z ds e in
+      record {
+        parties-low = f .sizes .parties-low;
+        parties-high = f .sizes .parties-high;
+        threshold = f .sizes .threshold;
+        room = f .sizes .room;
+        some = f .some;
+        most = f .most;
+        falling = f .falling;
+        top = f .top;
+        bottom = f .bottom;
+        block = (blockLength z ds, f .least, f .limit);
+      }
+
+  -- the check answers a scheme, or the number of the first ground that applies
+  first-told : (q : ℕ) → refused q ≡ checked n r z ds → FirstApplies q (schemeGrounds n r z ds)
+  first-told q e =
+      let told = scheme-told n r z ds {a = SchemeRefused q} e refl in
+      first-applies {q = q} scheme-tested (omega (arith, told .0, told .1)) .0 (first-alone (refusal n r z ds) ∙ told .0)
+
+  scheme-by : (a : SchemeAnswer) → schemeOutcome a ≡ checked n r z ds → Admissible n r z ds → (s : Scheme) × (a ≡ Accepted s)
+  scheme-by (Accepted s) e h = (s, refl)
+  scheme-by (SchemeRefused q) e h = absurd (none-first (schemeGrounds n r z ds) q (none-of h) (first-told q e))
+
+  refused-scheme : (q : ℕ) (a : SchemeAnswer) → schemeOutcome a ≡ checked n r z ds → FirstApplies q (schemeGrounds n r z ds) → a ≡ SchemeRefused q
+  refused-scheme q (Accepted s) e f =
+      absurd (none-first (schemeGrounds n r z ds) q (none-of (admissible (facts.accepted-scheme e refl .passed))) f)
+  refused-scheme q (SchemeRefused k) e f = ap SchemeRefused (first-once (schemeGrounds n r z ds) k q (first-told k e) f)
+
+  pub check-answers : (a : SchemeAnswer) → schemeOutcome a ≡ checked n r z ds → CheckedBy n r z ds a
+  check-answers a e =
+      let is : (s : Scheme) → a ≡ Accepted s → SchemeIs s n r z ds = λ s told. facts.accepted-scheme e told in
+      record {
+        accepts = (λ told. admissible (is (told .0) (told .1) .passed), scheme-by a e);
+        refuses = λ q. (λ told. first-told q (sym (ap schemeOutcome told) ∙ e), refused-scheme q a e);
+        n-is = λ s told. is s told .n-is;
+        r-is = λ s told. is s told .r-is;
+        z-is = λ s told. is s told .z-is;
+        block-is = λ s told. rw (is s told .block-is) (facts.accepted n r z ds (is s told .passed) .least);
+        rows-is = λ s told. rw (is s told .block-is, is s told .rows-is) (facts.accepted n r z ds (is s told .passed) .rows);
+      }
+
+pub default-check-answers : (a : SchemeAnswer) → schemeOutcome a ≡ checked defaultN defaultR defaultZ defaultCounts
+    → CheckedBy defaultN defaultR defaultZ defaultCounts a
+default-check-answers = check-answers defaultN defaultR defaultZ defaultCounts
