@@ -1,6 +1,7 @@
--- Every call in words: each test of a call reflects the line of document 01's table at its place, and what a call leaves follows from its answer.
+-- Every call in words: each test of a call reflects the line of document 01's table at its place, and what a call leaves follows from its answer. And
+-- the words settle a call.
 -- Assumes nothing.
-use mathlib.Core.Path.{_≡_, refl, sym, _∙_}
+use mathlib.Core.Path.{_≡_, refl, sym, ap, _∙_}
 use mathlib.Core.List.{List}
 use Prim.Native.Nat.{ℕ}
 use native.Mathlib.Omega.{arith}
@@ -8,6 +9,7 @@ use lib.ListN.{length}
 use Rattle.scheme.specs.declared.Answer.{Answer}
 use Rattle.scheme.specs.declared.Answer.the-variants.{Value, Refused}
 use Rattle.scheme.specs.Outcome.{outcome}
+use Rattle.scheme.specs.Grounds.{Ground, AnsweredBy}
 use Rattle.scheme.proofs.Laws.{end, line, above, other, no-count, not-rising, after-scheme, answered-by, told-accepted, told-refused, kept}
 use Rattle.staircase.specs.Parameters.{Parameters, defaultParameters}
 use Rattle.staircase.specs.Exactness.{prefixBytes}
@@ -16,8 +18,10 @@ use Rattle.party.specs.Prefix.{prefixRefusal, prefixLength, prefixAnswer, prefi
 use Rattle.party.proofs.Laws.{prefix-whole}
 use Rattle.reader.specs.Basis.{basisRefusal, basisAnswer, basisOf}
 use Rattle.reader.specs.Reconstruct.{reconstructRefusal, reconstructAnswer}
-use Rattle.reader.proofs.Laws.{basis-for, basis-zero}
-use Rattle.sharing.specs.Calls.{EverySplit, HandsBack, EveryPrefix, Tabulates, EveryBasis, EveryReconstruct}
+use Rattle.reader.proofs.Laws.{basis-for, basis-zero, basis-for-unique, all-zero-unique}
+use Rattle.sharing.specs.Secrecy.{Wrote}
+use Rattle.sharing.specs.Opening.{Opens}
+use Rattle.sharing.specs.Calls.{EverySplit, HandsBack, EveryPrefix, Tabulates, EveryBasis, EveryReconstruct, WordsSettle}
 use Rattle.sharing.proofs.Secrecy.{call-wrote}
 use Rattle.sharing.proofs.Opening.{exact-calls}
 
@@ -88,3 +92,53 @@ default-basis-in-words = basis-in-words defaultParameters
 
 pub default-reconstruct-in-words : EveryReconstruct defaultParameters
 default-reconstruct-in-words = reconstruct-in-words defaultParameters
+
+-- ---- the words settle a call
+
+-- no two answers fit the same lines and value
+one-answer : {grounds : List Ground} {v : ℕ} (a a′ : Answer) → AnsweredBy grounds v a → AnsweredBy grounds v a′ → a ≡ a′
+one-answer (Value w) a′ A A′ =
+    let other = A′ .accepts .1 (A .accepts .0 (w, refl)) in
+    ap Value (A .value-is w refl ∙ sym (A′ .value-is (other .0) (other .1))) ∙ sym (other .1)
+one-answer (Refused q) a′ A A′ = sym (A′ .refuses q .1 (A .refuses q .0 refl))
+
+-- and with one answer, no two outputs
+one-split : (p : Parameters) (message keys before : List ℕ) (a : Answer) (after after′ : List ℕ)
+    → Wrote p message keys before a after → Wrote p message keys before a after′ → after ≡ after′
+one-split p message keys before (Value bytes) after after′ W W′ = W .0 ∙ sym (W′ .0)
+one-split p message keys before (Refused number) after after′ W W′ = W ∙ sym W′
+
+one-part : (share : List ℕ) (a : Answer) (part part′ : List ℕ) → HandsBack share a part → HandsBack share a part′ → part ≡ part′
+one-part share (Value bytes) part part′ H H′ = H .0 ∙ sym (H′ .0)
+one-part share (Refused number) part part′ H H′ = H ∙ sym H′
+
+one-table : (p : Parameters) (parties : List ℕ) (a : Answer) (table table′ : List (List ℕ))
+    → Tabulates p parties a table → Tabulates p parties a table′ → table ≡ table′
+one-table p parties (Value d) table table′ T T′ = basis-for-unique T T′
+one-table p parties (Refused number) table table′ T T′ = all-zero-unique T T′
+
+one-opening : (p : Parameters) (message : ℕ) (parties prefixes before : List ℕ) (a : Answer) (after after′ : List ℕ)
+    → Opens p message parties prefixes before a after → Opens p message parties prefixes before a after′ → after ≡ after′
+one-opening p message parties prefixes before (Value used) after after′ O O′ = O .output ∙ sym (O′ .output)
+one-opening p message parties prefixes before (Refused number) after after′ O O′ = O ∙ sym O′
+
+pub words-settle : (p : Parameters) → WordsSettle p
+words-settle p =
+    record {
+      split =
+          λ message keys before a a′ after after′ S S′.
+          let same = one-answer a a′ (S .answered) (S′ .answered) in
+          (same, one-split p message keys before a after after′ (S .wrote) (rw (← same) at (S′ .wrote)));
+      prefix =
+          λ message d share a a′ part part′ P P′.
+          let same = one-answer a a′ (P .answered) (P′ .answered) in
+          (same, one-part share a part part′ (P .part-is) (rw (← same) at (P′ .part-is)));
+      basis =
+          λ parties a a′ table table′ B B′.
+          let same = one-answer a a′ (B .answered) (B′ .answered) in
+          (same, one-table p parties a table table′ (B .table-is) (rw (← same) at (B′ .table-is)));
+      reconstruct =
+          λ message parties prefixes before a a′ after after′ R R′.
+          let same = one-answer a a′ (R .answered) (R′ .answered) in
+          (same, one-opening p message parties prefixes before a after after′ (R .wrote) (rw (← same) at (R′ .wrote)));
+    }

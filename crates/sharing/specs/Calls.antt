@@ -128,3 +128,17 @@ abbrev pub EveryReconstruct : Parameters → Type 0
 EveryReconstruct p =
     (message : ℕ) (parties prefixes before : List ℕ) (a : Answer) (after : List ℕ) → Each Byte prefixes
     → ReconstructCall p message parties prefixes before a after → ReconstructInWords p message parties prefixes before a after
+
+-- ---- the words settle a call: two that fit them, given the same, answered and left the same. So a call with another answer or another output anywhere,
+-- by its definition or by its code, does not fit them
+
+pub record WordsSettle (p : Parameters) : Type 0 where
+  pub split : (message keys before : List ℕ) (a a′ : Answer) (after after′ : List ℕ)
+      → SplitInWords p message keys before a after → SplitInWords p message keys before a′ after′ → (a ≡ a′) × (after ≡ after′)
+  pub prefix : (message d : ℕ) (share : List ℕ) (a a′ : Answer) (part part′ : List ℕ)
+      → PrefixInWords p message d share a part → PrefixInWords p message d share a′ part′ → (a ≡ a′) × (part ≡ part′)
+  pub basis : (parties : List ℕ) (a a′ : Answer) (table table′ : List (List ℕ))
+      → BasisInWords p parties a table → BasisInWords p parties a′ table′ → (a ≡ a′) × (table ≡ table′)
+  pub reconstruct : (message : ℕ) (parties prefixes before : List ℕ) (a a′ : Answer) (after after′ : List ℕ)
+      → ReconstructInWords p message parties prefixes before a after → ReconstructInWords p message parties prefixes before a′ after′
+      → (a ≡ a′) × (after ≡ after′)
