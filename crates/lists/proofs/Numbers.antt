@@ -2,7 +2,7 @@
 -- Assumes nothing.
 use mathlib.Core.Path.{_≡_, sym, ap, _∙_}
 use Prim.Native.Nat.{ℕ, zero, suc, _+_, _-_, _*_, _/_, _%_, _≤_, _<_}
-use native.Mathlib.Nat.{zero-mul, mul-comm, mul-one, mul-sub, mul-le-mul-left, mul-lt-mul-of-pos-left, lt-of-mul-lt-mul-right, div-add-mod', mod-lt, mul-add-div-right, div-eq-of-lt, add-div-left, le-refl, le-trans, le-of-lt}
+use native.Mathlib.Nat.{zero-mul, mul-comm, mul-one, mul-sub, mul-le-mul-left, mul-lt-mul-of-pos-left, lt-of-mul-lt-mul-right, div-add-mod', mod-lt, mul-add-div-right, div-eq-of-lt, add-div-left, suc-mul, div-lt-iff-lt-mul, le-refl, le-trans, le-of-lt}
 use native.Mathlib.Omega.{arith}
 
 -- the smaller the one factor, the greater the other
@@ -55,3 +55,9 @@ module _ (x m : ℕ) (positive : 0 < m) where
   -- rounded up, it covers x
   pub round-up-covers : x ≤ (x + (m - 1)) / m * m
   round-up-covers = omega (arith, div-add-mod' (x + (m - 1)) m, mod-lt (x + (m - 1)) positive)
+
+  -- and no smaller number does
+  pub round-up-least : (k : ℕ) → x ≤ k * m → (x + (m - 1)) / m ≤ k
+  round-up-least k h =
+      let below : (x + (m - 1)) / m < suc k = div-lt-iff-lt-mul positive .1 (omega (arith, suc-mul k m)) in
+      omega arith

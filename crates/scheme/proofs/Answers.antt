@@ -74,7 +74,7 @@ answered-none k vs ws e =
     (none, ap (λ (o : Outcome). o .values) (e ∙ answer-none k ws none))
 
 -- a refusal that is answered where there are values is one that applies
-answered-some : (k q v : ℕ) (vs : List ℕ) → refused q ≡ answer k (v ∷ vs) → (k ≡ q) × (0 < k)
+pub answered-some : (k q v : ℕ) (vs : List ℕ) → refused q ≡ answer k (v ∷ vs) → (k ≡ q) × (0 < k)
 answered-some zero q v vs e =
     let values : [] ≡ v ∷ vs = ap (λ (o : Outcome). o .values) (e ∙ answer-none 0 (v ∷ vs) refl) in
     absurd (let z : _≡_ {A = ℕ} 0 1 = cc in let no : ⊥ = omega arith in no)

@@ -6,7 +6,7 @@ use mathlib.Core.Bool.{Bool, true, false, cond, true≢false}
 use mathlib.Core.Logic.{⊎-elim}
 use mathlib.Core.List.{List, [], _∷_}
 use Prim.Native.Nat.{ℕ, zero, suc, _+_, _-_, _*_, _%_, _≤_, _<_, _∣_, min}
-use native.Mathlib.Nat.{eq-or-lt-of-le, le-antisymm, mul-pos, dvd-mul-right, dvd-mul-left-of-dvd, dvd-of-mod-eq-zero, mod-eq-zero-of-dvd, min-eq-left, min-eq-right}
+use native.Mathlib.Nat.{eq-or-lt-of-le, le-antisymm, mul-pos, dvd-mul-right, dvd-mul-left-of-dvd, dvd-of-mod-eq-zero, mod-eq-zero-of-dvd, pos-of-dvd-of-pos, min-eq-left, min-eq-right}
 use native.Mathlib.Numerals.{add-one}
 use native.Mathlib.Omega.{arith}
 use lib.Dec.{eqb}
@@ -47,6 +47,10 @@ multiple-positive z (d ∷ ds) h =
     let l : z < d = h .0 in
     let p : 0 < d - z = omega arith in
     mul-pos p (multiple-positive z ds (h .1))
+
+-- only where every count is above z do all d − z divide a positive number
+divided-above : (z : ℕ) (ds : List ℕ) (x : ℕ) → 0 < x → Each (λ d. d - z ∣ x) ds → Each (λ d. z < d) ds
+divided-above z ds x p h = each-imp (λ d. d - z ∣ x) (λ d. z < d) (λ d divides. omega (arith, pos-of-dvd-of-pos divides p)) ds h
 
 -- every d − z divides none of the numbers from x up to y
 abbrev pub NoneFrom : ℕ → List ℕ → ℕ → ℕ → Type 0
@@ -101,6 +105,14 @@ module _ (z : ℕ) (ds : List ℕ) where
         divided = divides-each z ds (blockLength z ds) (f .here (omega arith));
         smallest = λ x p h. past (blockLength z ds) x (f .before) p h;
       }
+
+  -- a search that goes past 1 is over counts above z
+  pub block-above : 1 < blockLength z ds → Each (λ d. z < d) ds
+  unfolding blockLength
+  block-above h = divided-above z ds (commonMultiple z ds) (omega (arith, found (commonMultiple z ds) 1 .high)) (multiple-divided z ds)
+
+pub least-above : {z : ℕ} {ds : List ℕ} {m : ℕ} → Least z ds m → Each (λ d. z < d) ds
+least-above {z} {ds} {m} l = divided-above z ds m (l .positive) (l .divided)
 
 pub least-unique : {z : ℕ} {ds : List ℕ} {a b : ℕ} → Least z ds a → Least z ds b → a ≡ b
 least-unique {z} {ds} {a} {b} p q = le-antisymm (p .smallest b (q .positive) (q .divided)) (q .smallest a (p .positive) (p .divided))

@@ -2,14 +2,15 @@
 -- facts about the counts by their places. What the code's loop over the counts has found at each way out follows.
 -- Assumes nothing.
 use mathlib.Core.Path.{_≡_, refl}
-use mathlib.Core.Bool.{Bool, true, false, _||_, not}
+use mathlib.Core.Bool.{Bool, true, false, _||_, not, true≢false}
+use mathlib.Core.Logic.{⊎-elim}
 use mathlib.Core.List.{List, [], _∷_}
 use Prim.Native.Nat.{ℕ, zero, suc, _+_, _-_, _≤_, _<_}
 use native.Mathlib.Omega.{arith}
 use lib.Dec.{ltb, eqb}
 use lib.ListN.{length, getD}
 use borrow.Author.Tests.{lt-ltb, le-ltb, ne-eqb, ltb-true, ltb-false, eqb-true, eqb-false, not-false}
-use Rattle.lists.proofs.Tests.{both, neither}
+use Rattle.lists.proofs.Tests.{both, neither, lt-or-le}
 use Rattle.lists.proofs.Numbers.{falls-over}
 use Rattle.scheme.specs.Limits.{maxCounts}
 use Rattle.scheme.specs.Check.{falls, first, last, countsRefused}
@@ -18,7 +19,7 @@ use Rattle.scheme.specs.Check.{falls, first, last, countsRefused}
 abbrev pub Falls : List ℕ → Type 0
 Falls ds = (i : ℕ) → i + 1 < length ds → getD ds (i + 1) 0 < getD ds i 0
 
-falls-at : (ds : List ℕ) → falls ds ≡ true → Falls ds
+pub falls-at : (ds : List ℕ) → falls ds ≡ true → Falls ds
 unfolding falls
 falls-at [] e i h = omega arith
 falls-at (d ∷ []) e i h = omega arith
@@ -26,6 +27,20 @@ falls-at (d ∷ x ∷ ds) e zero h = ltb-true x d (both (ltb x d) (falls (x ∷ 
 falls-at (d ∷ x ∷ ds) e (suc i) h =
     let s : suc i + 1 ≡ suc (i + 1) = omega arith in
     rw s (falls-at (x ∷ ds) (both (ltb x d) (falls (x ∷ ds)) e .1) i (omega arith))
+
+-- the first place at which they do not
+pub falls-not : (ds : List ℕ) → falls ds ≡ false → (i : ℕ) × (i + 1 < length ds) × (getD ds i 0 ≤ getD ds (i + 1) 0)
+unfolding falls
+falls-not [] e = absurd (true≢false e)
+falls-not (d ∷ []) e = absurd (true≢false e)
+falls-not (d ∷ x ∷ ds) e =
+    ⊎-elim
+    (λ less.
+    let later = falls-not (x ∷ ds) (rw (lt-ltb x d less) at e) in
+    let s : suc (later .0) + 1 ≡ suc (later .0 + 1) = omega arith in
+    (suc (later .0), omega (arith, later .1), rw s (later .2)))
+    (λ most. (0, omega arith, most))
+    (lt-or-le x d)
 
 falls-by : (ds : List ℕ) → Falls ds → falls ds ≡ true
 unfolding falls

@@ -4,6 +4,7 @@ mod Answers
 mod Refusals
 mod SchemeFacts
 mod Parties
+mod Grounds
 mod Written
 mod Decimal
 mod SheetText

@@ -39,11 +39,7 @@ thresholds-pass n r z p h = rw (ne-eqb z 0 (λ e. omega arith), lt-leb n (r + z)
 
 -- past refusals 1 to 3
 module _ (n r z : ℕ) (ds : List ℕ) (p : partiesRefused n ≡ false) (t : thresholdsRefused n r z ≡ false) (s : countsRefused n r ds ≡ false) where
-  pub refusal-4 : maxBlock < blockLength z ds → refusal n r z ds ≡ 4
-  unfolding refusal blockRefused
-  refusal-4 h = numbered (pass-false 1 p (pass-false 2 t (pass-false 3 s (stop-over h))))
-
-  pub refusal-0 : blockLength z ds ≤ maxBlock → refusal n r z ds ≡ 0
+  refusal-0 : blockLength z ds ≤ maxBlock → refusal n r z ds ≡ 0
   unfolding refusal blockRefused
   refusal-0 h = numbered (pass-false 1 p (pass-false 2 t (pass-false 3 s (pass-within 4 h done))))
 

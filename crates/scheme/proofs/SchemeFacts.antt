@@ -1,41 +1,31 @@
--- What holds of every scheme that the check accepts: refusal 4 is about the least common multiple, the rows of a block and of each count
--- come out whole, and they grow as the counts fall.
+-- What holds of every scheme that the check accepts: the rows of a block and of each count come out whole, and they grow as the counts fall;
+-- and of the number of a message's blocks.
 -- Assumes nothing.
 use mathlib.Core.Path.{_≡_, refl, sym, ap, _∙_}
-use mathlib.Core.Bool.{false}
 use mathlib.Core.List.{List}
-use Prim.Native.Nat.{ℕ, zero, suc, _+_, _-_, _*_, _≤_, _<_, _∣_}
+use Prim.Native.Nat.{ℕ, zero, suc, _+_, _-_, _*_, _<_, _∣_}
 use native.Mathlib.Nat.{div-mul-cancel, mul-div-cancel', zero-mul}
 use native.Mathlib.Omega.{arith}
 use lib.ListN.{length, getD}
 use Rattle.lists.specs.Each.{Each}
 use Rattle.lists.proofs.Each.{each-getD, each-of}
-use Rattle.lists.proofs.Numbers.{other-factor, factors-differ}
+use Rattle.lists.proofs.Numbers.{other-factor, factors-differ, round-up-covers, round-up-least}
 use Rattle.scheme.specs.declared.Scheme.{Scheme}
 use Rattle.scheme.specs.declared.SchemeAnswer.{SchemeAnswer}
 use Rattle.scheme.specs.declared.SchemeAnswer.the-variants.{Accepted}
-use Rattle.scheme.specs.Limits.{maxBlock}
 use Rattle.scheme.specs.Outcome.{schemeOutcome}
 use Rattle.scheme.specs.BlockLength.{blockLength, Least}
-use Rattle.scheme.specs.Check.{last, partiesRefused, thresholdsRefused, countsRefused, refusal, rowsOfCount, rowsOfBlock, checked}
+use Rattle.scheme.specs.Check.{last, refusal, rowsOfCount, rowsOfBlock, blockCount, checked}
 use Rattle.scheme.specs.Facts as facts
-use Rattle.scheme.specs.Facts.{Sizes, SchemeIs}
-use Rattle.scheme.proofs.BlockLength.{block-least, least-unique}
+use Rattle.scheme.specs.Facts.{Sizes, SchemeIs, FewestBlocks}
+use Rattle.scheme.proofs.BlockLength.{block-least}
 use Rattle.scheme.proofs.Counts.{Fit, counts-fit, fit-low, fit-high}
-use Rattle.scheme.proofs.Refusals.{sizes, passed, refusal-0, refusal-4}
+use Rattle.scheme.proofs.Refusals.{sizes, passed}
 use Rattle.scheme.proofs.Answers.{answered-none}
 
 -- every count is above z, as k is positive
 above : (n r z : ℕ) (ds : List ℕ) → Sizes n r z → Fit n r ds → Each (λ d. z < d) ds
 above n r z ds s f = each-of {A = ℕ} (λ d. z < d) ds 0 (λ i h. omega (arith, fit-low n r ds f i h, s .room))
-
-pub refused-four : (n r z : ℕ) (ds : List ℕ) → partiesRefused n ≡ false → thresholdsRefused n r z ≡ false → countsRefused n r ds ≡ false
-    → (m : ℕ) → Least z ds m → (refusal n r z ds ≡ 4 → maxBlock < m) × (maxBlock < m → refusal n r z ds ≡ 4)
-refused-four n r z ds p t s m least =
-    let b = block-least z ds (above n r z ds (sizes n r z p t) (counts-fit n r ds s)) in
-    let same : blockLength z ds ≡ m = least-unique b least in
-    let no : (refusal n r z ds ≡ 4) → blockLength z ds ≤ maxBlock → ⊥ = λ e h. omega (arith, refusal-0 n r z ds p t s h) in
-    (λ e. omega (arith, no e), λ h. refusal-4 n r z ds p t s (omega arith))
 
 -- the rows of counts that fall strictly to n − r, all above z, whose d − z all divide m
 module _ (n r z : ℕ) (ds : List ℕ) (s : Sizes n r z) (f : Fit n r ds) (m : ℕ) (least : Least z ds m) where
@@ -120,3 +110,7 @@ scheme-own s n r z ds is =
       block-is = rw (is .z-is) (is .block-is);
       rows-is = rw (is .n-is, is .r-is, is .z-is) (is .rows-is);
     }
+
+pub block-count-least : (m bytes : ℕ) → 0 < m → FewestBlocks m bytes (blockCount m bytes)
+unfolding blockCount
+block-count-least m bytes positive = record { enough = round-up-covers bytes m positive; fewest = round-up-least bytes m positive }

@@ -1,4 +1,4 @@
--- What holds of every accepted scheme, for the layers above.
+-- What holds of every accepted scheme, for the layers above, and of the number of a message's blocks.
 -- Assumes nothing.
 use mathlib.Core.Path.{_≡_}
 use mathlib.Core.List.{List}
@@ -50,3 +50,8 @@ pub record SchemeIs (s : Scheme) (n r z : ℕ) (ds : List ℕ) : Type 0 where
   pub z-is : s .z ≡ z
   pub block-is : s .block ≡ blockLength z ds
   pub rows-is : s .rows ≡ rowsOfBlock n r z (blockLength z ds)
+
+-- N blocks of m bytes hold a message of so many bytes, and no fewer do
+pub record FewestBlocks (m bytes N : ℕ) : Type 0 where
+  pub enough : bytes ≤ N * m
+  pub fewest : (blocks : ℕ) → bytes ≤ blocks * m → N ≤ blocks

@@ -7,7 +7,7 @@ use mathlib.Core.Path.{_≡_}
 use mathlib.Core.Logic.{_⊎_, _↔_, _≢_}
 use mathlib.Core.List.{List, [], _∷_}
 use Prim.Native.Nat.{ℕ, _+_, _-_, _*_, _≤_, _<_}
-use lib.ListN.{length, getD}
+use lib.ListN.{length, getD, take}
 use Rattle.lists.specs.Each.{Each}
 use Rattle.scheme.specs.declared.Answer.{Answer}
 use Rattle.scheme.specs.declared.Answer.the-variants.{Value, Refused}
@@ -16,7 +16,7 @@ use Rattle.scheme.specs.declared.SchemeAnswer.{SchemeAnswer}
 use Rattle.scheme.specs.declared.SchemeAnswer.the-variants.{Accepted, Refused as SchemeRefused}
 use Rattle.scheme.specs.Limits.{maxParties, maxCounts, maxBlock}
 use Rattle.scheme.specs.BlockLength.{Least}
-use Rattle.scheme.specs.Check.{first, last}
+use Rattle.scheme.specs.Check.{first, last, refusal}
 
 pub record Ground : Type 1 where
   pub number : ℕ
@@ -62,6 +62,11 @@ schemeGrounds n r z ds =
     ∷ ground 3 (CountsWrong n r ds)
     ∷ ground 4 (BlockTooLong z ds)
     ∷ []
+
+-- refusal 4: where 1 to 3 do not apply, it is given exactly if the smallest number that every d − z divides is above the limit
+abbrev pub RefusedFour : ℕ → ℕ → ℕ → List ℕ → Type 0
+RefusedFour n r z ds =
+    NoneApplies (take 3 (schemeGrounds n r z ds)) → (m : ℕ) → Least z ds m → (refusal n r z ds ≡ 4) ↔ (maxBlock < m)
 
 -- what an accepted scheme is
 pub record Admissible (n r z : ℕ) (ds : List ℕ) : Type 0 where
