@@ -4,8 +4,5 @@ mod Answers
 mod Refusals
 mod SchemeFacts
 mod Parties
-mod Written
-mod Decimal
-mod SheetText
 pub mod Examples
 pub mod Laws

@@ -1,0 +1,4 @@
+mod Written
+mod Decimal
+mod SheetText
+pub mod Laws
