@@ -1,15 +1,11 @@
--- Worked examples of the check, of the number of blocks and of the sheet, by computing; and the limits, in numbers.
+-- Worked examples of the check and of the number of blocks, by computing; and the limits, in numbers.
 -- Assumes nothing.
 use mathlib.Core.Path.{_≡_, refl}
-use mathlib.Core.List.{List, [], _∷_}
-use Prim.Native.Nat.{ℕ}
-use Prim.Native.Char.{code}
-use Prim.Native.String.{String, [] as no-text, _∷_ as _then_}
+use mathlib.Core.List.{[], _∷_}
 use Rattle.scheme.specs.Limits.{maxParties, maxCounts, maxBlock, maxMessage, defaultN, defaultR, defaultZ, defaultCounts}
 use Rattle.scheme.specs.Outcome.{accepted, refused, firstOf, answer}
 use Rattle.scheme.specs.BlockLength.{divides, firstFrom, commonMultiple, blockLength}
 use Rattle.scheme.specs.Check.{falls, partiesRefused, thresholdsRefused, countsRefused, blockRefused, refusal, rowsOfCount, rowsOfBlock, blockCount, checked}
-use Rattle.scheme.specs.Sheet.{digits, decimal, line, countLine, countLines, schemeText, sheetText}
 
 pub limits :
     (maxParties ≡ 16)
@@ -25,11 +21,6 @@ limits = (refl, refl, refl, refl, refl, refl, refl, refl)
 pub default-accepted : refusal defaultN defaultR defaultZ defaultCounts ≡ 0
 unfolding divides firstFrom commonMultiple blockLength falls partiesRefused thresholdsRefused countsRefused blockRefused firstOf refusal
 default-accepted = refl
-
--- the bytes of a text in ASCII
-abbrev ascii : String → List ℕ
-ascii no-text = []
-ascii (c then text) = code c ∷ ascii text
 
 pub examples :
     -- the default: 4, 3 and 2 are to divide m
@@ -52,9 +43,5 @@ pub examples :
     × (blockCount 12 0 ≡ 0)
     × (blockCount 12 12 ≡ 1)
     × (blockCount 12 13 ≡ 2)
-    -- sheets: of a scheme, of one that is refused as r and z are absent, and of the default, which no input means
-    × (sheetText (7 ∷ 4 ∷ 1 ∷ 7 ∷ 4 ∷ 3 ∷ []) ≡ ascii "block 6 rows 3\n7 1 7\n4 2 8\n3 3 9\n")
-    × (sheetText (3 ∷ []) ≡ ascii "refused 2\n")
-    × (sheetText [] ≡ ascii "block 12 rows 6\n5 3 15\n4 4 16\n3 6 18\n")
-unfolding divides firstFrom commonMultiple blockLength falls partiesRefused thresholdsRefused countsRefused blockRefused firstOf answer refusal rowsOfCount rowsOfBlock blockCount checked digits decimal line countLine countLines schemeText sheetText
-examples = (refl, refl, refl, refl, refl, refl, refl, refl, refl, refl, refl, refl, refl, refl, refl, refl, refl)
+unfolding divides firstFrom commonMultiple blockLength falls partiesRefused thresholdsRefused countsRefused blockRefused firstOf answer refusal rowsOfCount rowsOfBlock blockCount checked
+examples = (refl, refl, refl, refl, refl, refl, refl, refl, refl, refl, refl, refl, refl, refl)

@@ -5,5 +5,3 @@ pub mod Check
 pub mod Facts
 pub mod Grounds
 pub mod Readers
-pub mod Sheet
-pub mod Writing

@@ -10,15 +10,10 @@ ghost use Rattle.scheme.specs.Check.{checked, countsRefused, rowsOfCount
 use lists::wide;
 
 pub mod limits;
-mod printing;
 mod readers;
-mod writer;
 
-pub use printing::MAX_INPUT;
-pub use printing::sheet;
 pub use readers::is_count;
 pub use readers::readers_refused;
-pub use writer::Text;
 
 // An accepted scheme: its parameters, the block length m and the rows b of a block.
 pub struct Scheme {

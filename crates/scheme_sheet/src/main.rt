@@ -4,9 +4,9 @@ use libc::STDIN_FILENO;
 use libc::STDOUT_FILENO;
 
 fn main() {
-    let mut input = [0u8; scheme::MAX_INPUT];
+    let mut input = [0u8; sheet::MAX_INPUT];
     let got = io::read_full(STDIN_FILENO, &mut input);
-    let sheet = scheme::sheet(&input[..got]);
+    let sheet = sheet::sheet(&input[..got]);
     let bytes = sheet.bytes;
     let length = sheet.length;
     io::write_all(STDOUT_FILENO, &bytes[..length]);

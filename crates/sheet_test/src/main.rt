@@ -56,7 +56,7 @@ fn refused_for_counts() {
 
 // Prints the sheet of an input.
 fn show(input: &[u8]) {
-    let sheet = scheme::sheet(input);
+    let sheet = sheet::sheet(input);
     let bytes = sheet.bytes;
     let length = sheet.length;
     io::write_all(STDOUT_FILENO, &bytes[..length]);

@@ -1,0 +1,5 @@
+mod Written
+mod Decimal
+mod SheetText
+pub mod Examples
+pub mod Laws
