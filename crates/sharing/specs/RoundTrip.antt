@@ -1,5 +1,5 @@
 -- Demand 2 of the request, the way there and back: what was split comes back. That opening is exact, whatever prefixes are lent, is
--- `Exactness` in crates/staircase/specs/Exactness.antt.
+-- `ExactCalls` in Opening.antt.
 -- Assumes nothing.
 use mathlib.Core.Path.{_≡_}
 use mathlib.Core.Bool.{true}
