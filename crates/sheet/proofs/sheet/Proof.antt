@@ -22,10 +22,7 @@ sheet-spec =
     (λ c κs. search needs)
     (λ c.
     let input = c .before .before .before .before .before .before .before .args .input .now in
-    rw (
-      sheet-given input (c .before .before .before .before .before .if1 .left),
-      ← c .before .before .before .byte-or-0 .ensures,
-      ← c .before .before .byte-or-02 .ensures,
-      ← c .before .counts-of .ensures,
-    )
-    (whole (c .scheme-text2 .ensures) (scheme-text-short _ _ _ _))))
+    let holds =
+    rw (c .before .before .before .byte-or-0 .ensures, c .before .before .byte-or-02 .ensures, c .before .counts-of .ensures)
+    at (c .scheme-text2 .ensures) in
+    rw (sheet-given input (c .before .before .before .before .before .if1 .left)) (whole holds (scheme-text-short _ _ _ _))))
