@@ -120,7 +120,13 @@ sharing_answer sharing_reconstruct_default(
     size_t message_length, const uint8_t *parties, size_t parties_length,
     const uint8_t *prefixes, size_t prefixes_length, uint8_t *out, size_t out_length);
 
-/* The product of two bytes as FIPS 197 has it, by tables. Every byte is accepted. */
+/*
+ * Byte arithmetic of FIPS 197, section 4. Every byte is accepted. The sum, which is the difference too:
+ * the exclusive or.
+ */
+uint8_t gf256_add(uint8_t a, uint8_t b);
+
+/* The product, by tables. */
 uint8_t gf256_mul(uint8_t a, uint8_t b);
 
 /* The same product, by shifting. */
