@@ -12,8 +12,9 @@
  * Every call has a form whose name ends in `_default`, without the scheme's parameters, for the
  * scheme n 5, r 2, z 1, counts 5, 4, 3.
  *
- * Every call returns, whatever it is given. `refusal` is 0 when it was accepted; otherwise it is the
- * first of these numbers that applies, every other field is 0, and nothing was written:
+ * Every call returns, whatever numbers, bytes and lengths it is given; no pointer may be NULL, not even
+ * beside the length 0. `refusal` is 0 when it was accepted; otherwise it is the first of these numbers
+ * that applies, every other field is 0, and nothing was written:
  *
  *    1  n is below 2 or above 16
  *    2  z is 0, or r + z is n or more
@@ -26,10 +27,15 @@
  *    9  the share does not have N x b bytes, or the prefixes together d x m / (d - z) x N
  *   10  the output does not have the length that the call writes
  *
- * What the caller owes, since nothing here can check it: a pointer is not NULL, not even beside the
- * length 0; as many bytes as its length says stand behind it, and no other thread changes them during
- * the call; `out` does not overlap what the call reads. Keys are to be drawn evenly at random, kept as
- * secret as the message, and used for one message only: the library draws none.
+ * What the caller owes, since nothing here can check it: a pointer is not NULL; as many bytes as its
+ * length says stand behind it, and no other thread changes them during the call; `out` does not overlap
+ * what the call reads. Keys are to be drawn evenly at random, kept as secret as the message, and used
+ * for one message only: the library draws none.
+ *
+ * The library has three operations more in Rattle: the prefix as a part of the lent share, which in C is
+ * the share's own pointer with the length that sharing_prefix answers; the size of a basis, whose
+ * refusal stands here beside the table, since a struct holds both; and the text of a scheme's sheet,
+ * which the program scheme_sheet prints.
  */
 #ifndef SHARING_H
 #define SHARING_H
@@ -120,7 +126,13 @@ sharing_answer sharing_reconstruct_default(
     size_t message_length, const uint8_t *parties, size_t parties_length,
     const uint8_t *prefixes, size_t prefixes_length, uint8_t *out, size_t out_length);
 
-/* The product of two bytes as FIPS 197 has it, by tables. Every byte is accepted. */
+/*
+ * Byte arithmetic of FIPS 197, section 4. Every byte is accepted. The sum, which is the difference too:
+ * the exclusive or.
+ */
+uint8_t gf256_add(uint8_t a, uint8_t b);
+
+/* The product, by tables. */
 uint8_t gf256_mul(uint8_t a, uint8_t b);
 
 /* The same product, by shifting. */

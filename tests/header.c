@@ -1,5 +1,5 @@
 /*
- * Calls everything that include/sharing.h declares and compares the answers with worked examples: a
+ * Calls everything that include/sharing.h declares and compares the answers with known ones: a
  * declaration that does not fit the library, or a field out of its order, shows here.
  */
 #include "sharing.h"
@@ -16,10 +16,15 @@ static void expect(int holds, const char *what, int line) {
 }
 #define EXPECT(condition) expect(condition, #condition, __LINE__)
 
-/* Three parties, one may be absent, one may collude. */
-static const uint8_t counts[] = {3, 2};
-static const uint8_t message[] = {5, 7}, keys[] = {9, 4};
-static const uint8_t shares[] = {11, 3, 31, 10, 29, 13};
+/*
+ * Five parties, one may be absent, two may collude: n, r and z all differ, and with r and z exchanged
+ * every call refuses the scheme. A block has 6 bytes and 3 rows. The shares and the weights are those
+ * of the other implementation, rust/src/reference.rs.
+ */
+static const uint8_t counts[] = {5, 4};
+static const uint8_t message[] = {5, 7, 1, 255, 16}, keys[] = {9, 4, 2, 6, 200, 33};
+static const uint8_t shares[] = {14, 235, 232, 61, 95, 142, 40, 214, 174, 137, 31, 92, 226, 173, 124};
+static const uint8_t four[] = {1, 2, 4, 5};
 
 static void sizes(void) {
     EXPECT(sizeof(sharing_scheme) == 24 && sizeof(sharing_answer) == 16 && sizeof(sharing_basis_answer) == 264);
@@ -27,6 +32,7 @@ static void sizes(void) {
 }
 
 static void arithmetic(void) {
+    EXPECT(gf256_add(0x57, 0x83) == 0xd4);
     EXPECT(gf256_mul(0x57, 0x83) == 0xc1);
     EXPECT(gf256_mul_by_shifting(0x57, 0x13) == 0xfe);
     EXPECT(gf256_inverse(2) == 0x8d && gf256_inverse(0) == 0);
@@ -38,27 +44,62 @@ static void schemes(void) {
     EXPECT(s.refusal == 0 && s.block == 840 && s.rows == 168);
     s = sharing_check(10, 4, 1, too_long, sizeof too_long);
     EXPECT(s.refusal == 4 && s.block == 0 && s.rows == 0);
+    s = sharing_check(5, 1, 2, counts, 2);
+    EXPECT(s.refusal == 0 && s.block == 6 && s.rows == 3);
     s = sharing_check_default();
     EXPECT(s.refusal == 0 && s.block == 12 && s.rows == 6);
 }
 
-static void one_scheme(void) {
-    const uint8_t two[] = {1, 3}, two_prefixes[] = {11, 3, 29, 13}, last_two[] = {2, 3};
-    uint8_t out[6], opened[2] = {0, 0};
-    sharing_answer a = sharing_split(3, 1, 1, counts, 2, message, 2, keys, 2, out, 6);
-    EXPECT(a.refusal == 0 && a.value == 2 && memcmp(out, shares, 6) == 0);
-    a = sharing_split(3, 1, 1, counts, 2, message, 2, keys, 1, out, 6);
-    EXPECT(a.refusal == 8 && a.value == 0);
-    a = sharing_prefix(3, 1, 1, counts, 2, 2, 3, shares, 2);
-    EXPECT(a.refusal == 0 && a.value == 1);
-    a = sharing_reconstruct(3, 1, 1, counts, 2, 2, two, 2, two_prefixes, 4, opened, 2);
-    EXPECT(a.refusal == 0 && a.value == 4 && memcmp(opened, message, 2) == 0);
-    a = sharing_reconstruct(3, 1, 1, counts, 2, 2, two, 2, two_prefixes, 4, opened, 1);
-    EXPECT(a.refusal == 10 && a.value == 0);
-    /* x + 3 is 1 at 2 and 0 at 3, x + 2 the other way round. Turned over, the table would be another. */
-    sharing_basis_answer basis = sharing_basis(3, 1, 1, counts, 2, last_two, 2);
-    EXPECT(basis.refusal == 0 && basis.weights[0] == 3 && basis.weights[1] == 1 && basis.weights[2] == 0);
-    EXPECT(basis.weights[16] == 2 && basis.weights[17] == 1 && basis.weights[255] == 0);
+static void splits(void) {
+    uint8_t out[15];
+    sharing_answer a = sharing_split(5, 1, 2, counts, 2, message, 5, keys, 6, out, 15);
+    EXPECT(a.refusal == 0 && a.value == 3 && memcmp(out, shares, 15) == 0);
+}
+
+static void prefixes(void) {
+    sharing_answer a = sharing_prefix(5, 1, 2, counts, 2, 5, 5, shares, 3);
+    EXPECT(a.refusal == 0 && a.value == 2);
+    a = sharing_prefix(5, 1, 2, counts, 2, 5, 4, shares, 3);
+    EXPECT(a.refusal == 0 && a.value == 3);
+}
+
+/* Turned over, the table would be another. */
+static void bases(void) {
+    const uint8_t weights[4][4] = {{247, 24, 153, 119}, {185, 223, 0, 102}, {246, 74, 82, 238}, {185, 141, 203, 255}};
+    sharing_basis_answer basis = sharing_basis(5, 1, 2, counts, 2, four, 4);
+    EXPECT(basis.refusal == 0);
+    for (int k = 0; k < 256; k++)
+        EXPECT(basis.weights[k] == (k / 16 < 4 && k % 16 < 4 ? weights[k / 16][k % 16] : 0));
+}
+
+static void openings(void) {
+    const uint8_t five[] = {1, 2, 3, 4, 5}, of_five[] = {14, 235, 61, 95, 40, 214, 137, 31, 226, 173};
+    const uint8_t of_four[] = {14, 235, 232, 61, 95, 142, 137, 31, 92, 226, 173, 124};
+    uint8_t opened[5] = {0}, again[5] = {0};
+    sharing_answer a = sharing_reconstruct(5, 1, 2, counts, 2, 5, five, 5, of_five, 10, opened, 5);
+    EXPECT(a.refusal == 0 && a.value == 10 && memcmp(opened, message, 5) == 0);
+    a = sharing_reconstruct(5, 1, 2, counts, 2, 5, four, 4, of_four, 12, again, 5);
+    EXPECT(a.refusal == 0 && a.value == 12 && memcmp(again, message, 5) == 0);
+}
+
+/* Of two refusals that apply the first is answered, alone, and the output stays as it was. */
+static void two_refusals(void) {
+    const uint8_t falling[] = {5, 4, 2, 1};
+    uint8_t out[14], before[14];
+    memset(before, 7, 14);
+    memcpy(out, before, 14);
+    sharing_scheme s = sharing_check(5, 1, 0, counts, 1);
+    EXPECT(s.refusal == 2 && s.block == 0 && s.rows == 0);
+    sharing_answer a = sharing_split(5, 1, 2, counts, 2, message, 5, keys, 5, out, 14);
+    EXPECT(a.refusal == 8 && a.value == 0 && memcmp(out, before, 14) == 0);
+    a = sharing_prefix(5, 1, 2, counts, 2, 5, 3, shares, 2);
+    EXPECT(a.refusal == 6 && a.value == 0);
+    sharing_basis_answer basis = sharing_basis(5, 1, 2, counts, 2, falling, 3);
+    EXPECT(basis.refusal == 6 && basis.weights[0] == 0);
+    a = sharing_reconstruct(5, 1, 2, counts, 2, 5, falling, 4, shares, 11, out, 5);
+    EXPECT(a.refusal == 7 && a.value == 0 && memcmp(out, before, 14) == 0);
+    a = sharing_reconstruct(5, 1, 2, counts, 2, 5, four, 4, shares, 11, out, 4);
+    EXPECT(a.refusal == 9 && a.value == 0 && memcmp(out, before, 14) == 0);
 }
 
 static void default_scheme(void) {
@@ -83,7 +124,11 @@ int main(void) {
     sizes();
     arithmetic();
     schemes();
-    one_scheme();
+    splits();
+    prefixes();
+    bases();
+    openings();
+    two_refusals();
     default_scheme();
     return failures != 0;
 }

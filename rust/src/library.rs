@@ -31,6 +31,7 @@ mod boundary {
 
     #[rustfmt::skip]
     extern "C" {
+        pub fn gf256_add(a: u8, b: u8) -> u8;
         pub fn gf256_mul(a: u8, b: u8) -> u8;
         pub fn gf256_mul_by_shifting(a: u8, b: u8) -> u8;
         pub fn gf256_inverse(a: u8) -> u8;
@@ -88,6 +89,10 @@ fn answer(answer: boundary::SharingAnswer) -> Answer {
         assert_eq!(answer.value, 0, "a refusal comes alone");
         Err(answer.refusal)
     }
+}
+
+pub fn add(a: u8, b: u8) -> u8 {
+    unsafe { boundary::gf256_add(a, b) }
 }
 
 pub fn mul(a: u8, b: u8) -> u8 {

@@ -1,6 +1,7 @@
 //! The rules of the scheme, written from their document alone and by other means than the proved
-//! library: products bit by bit, inverses by trial, the block length by Euclid's algorithm, rows by their literal
-//! lists, values as sums of powers, weights and messages by elimination. Speed is no aim.
+//! library: sums and products bit by bit, inverses by trial, the block length by Euclid's algorithm,
+//! rows by their literal lists, values as sums of powers, weights and messages by elimination. Speed is
+//! no aim.
 
 use std::sync::OnceLock;
 
@@ -9,6 +10,11 @@ const MOST_PARTIES: i32 = 16;
 const MOST_COUNTS: usize = 8;
 const LONGEST_BLOCK: u64 = 840;
 const LONGEST_MESSAGE: usize = 16384;
+
+/// The sum of the two bit polynomials: bit by bit, modulo 2.
+pub fn add(a: u8, b: u8) -> u8 {
+    (0..8).map(|i| ((a >> i & 1) + (b >> i & 1)) % 2 << i).sum()
+}
 
 /// The product of the two bit polynomials, reduced by x^8 + x^4 + x^3 + x + 1.
 fn bitwise_product(a: u8, b: u8) -> u8 {

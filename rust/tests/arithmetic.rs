@@ -3,6 +3,16 @@
 use gilunavoi::{library, reference};
 
 #[test]
+fn all_sums() {
+    for a in 0..=255 {
+        for b in 0..=255 {
+            assert_eq!(library::add(a, b), reference::add(a, b), "{a} plus {b}");
+        }
+    }
+    println!("65536 pairs");
+}
+
+#[test]
 fn all_products() {
     for a in 0..=255 {
         for b in 0..=255 {

@@ -1,7 +1,7 @@
 // The C boundary. A slice is a pointer and a length; an answer is a struct whose `refusal` is 0 when
 // the call is accepted.
 ghost use mathlib.Core.Path.{_≡_};
-ghost use Rattle.gf256.specs.Byte.{_⊗_, inverse};
+ghost use Rattle.gf256.specs.Byte.{_⊕_, _⊗_, inverse};
 ghost use Rattle.scheme.specs.Limits.{defaultN, defaultR, defaultZ, defaultCounts};
 ghost use Rattle.scheme.specs.Outcome.{outcome, schemeOutcome};
 ghost use Rattle.scheme.specs.Check.{checked};
@@ -34,6 +34,13 @@ pub struct SharingBasis {
 }
 
 const WEIGHTS: usize = SIDE * SIDE;
+
+#[no_mangle]
+pub extern "C" fn gf256_add(a: u8, b: u8) -> u8
+    ensures { λ r. ⌜ r ≡ a ⊕ b ⌝ }
+{
+    gf256::add(a, b)
+}
 
 #[no_mangle]
 pub extern "C" fn gf256_mul(a: u8, b: u8) -> u8

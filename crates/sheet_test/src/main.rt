@@ -6,6 +6,7 @@ fn main() {
     accepted();
     refused();
     refused_for_counts();
+    refused_twice();
 }
 
 // Schemes that are accepted.
@@ -52,6 +53,14 @@ fn refused_for_counts() {
     // Nine counts, and more bytes than count.
     show(&[16, 7, 1, 16, 15, 14, 13, 12, 11, 10, 9, 8]);
     show(&[16, 13, 1, 16, 13, 12, 11, 10, 9, 8, 7, 6, 3]);
+}
+
+// Two refusals at once, of which the first is answered: 1 and 2, 2 and 3, 3 and 4.
+fn refused_twice() {
+    show(&[17, 2, 0, 5, 4, 3]);
+    show(&[5, 2, 0, 5, 5, 3]);
+    // The block would have 2,520 bytes, and the list does not end at n - r.
+    show(&[10, 4, 1, 10, 9, 8, 6, 5]);
 }
 
 // Prints the sheet of an input.

@@ -1,10 +1,10 @@
--- `sharing_test::show_parts` is safe: the part lies within the output.
+-- `sharing_test::splits::show_parts` is safe: the part lies within the output.
 -- Assumes nothing.
 use mathlib.Core.Path.{sym}
 use lib.Seq.{length-take-le}
 use borrow.Author.Needs.{needs}
-use Rattle.sharing_test.proofs.show_parts.Statement.{statement}
-use Rattle.sharing_test.proofs.show_parts.Tie as tie
+use Rattle.sharing_test.proofs.splits.show_parts.Statement.{statement}
+use Rattle.sharing_test.proofs.splits.show_parts.Tie as tie
 
 pub show-parts-spec : {M : Type 1} → statement M
 show-parts-spec =

@@ -1,11 +1,11 @@
--- `sharing_test::print_bytes` is safe and ends: the place stays within the bytes, and the measure is what is left of them.
+-- `sharing_test::printing::bytes` is safe and ends: the place stays within the bytes, and the measure is what is left of them.
 -- Assumes nothing.
 use Prim.Native.Nat.{_≤_, _-_}
 use native.Mathlib.Omega.{arith}
 use lib.ListN.{length}
 use borrow.Author.Needs.{needs}
-use Rattle.sharing_test.proofs.print_bytes.Statement.{statement}
-use Rattle.sharing_test.proofs.print_bytes.Tie as tie
+use Rattle.sharing_test.proofs.printing.bytes.Statement.{statement}
+use Rattle.sharing_test.proofs.printing.bytes.Tie as tie
 
 abbrev Inv-loop : tie.InvT-loop
 Inv-loop bytes i₀ t3 t4 i = i ≤ length bytes
@@ -13,8 +13,8 @@ Inv-loop bytes i₀ t3 t4 i = i ≤ length bytes
 abbrev μ-loop : tie.MeasureT-loop
 μ-loop bytes i₀ t3 t4 i = length bytes - i
 
-pub print-bytes-spec : {M : Type 1} → statement M
-print-bytes-spec =
+pub bytes-spec : {M : Type 1} → statement M
+bytes-spec =
     tie.close
     (tie.spec Inv-loop μ-loop
     (λ c. search needs)

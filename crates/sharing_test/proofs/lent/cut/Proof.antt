@@ -1,10 +1,10 @@
--- `sharing_test::cut` is safe: the part lies within the bytes.
+-- `sharing_test::lent::cut` is safe: the part lies within the bytes.
 -- Assumes nothing.
 use mathlib.Core.Path.{sym}
 use lib.Seq.{length-take-le}
 use borrow.Author.Needs.{needs}
-use Rattle.sharing_test.proofs.cut.Statement.{statement}
-use Rattle.sharing_test.proofs.cut.Tie as tie
+use Rattle.sharing_test.proofs.lent.cut.Statement.{statement}
+use Rattle.sharing_test.proofs.lent.cut.Tie as tie
 
 pub cut-spec : {M : Type 1} → statement M
 cut-spec =
