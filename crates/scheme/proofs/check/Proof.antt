@@ -13,9 +13,9 @@ pub check-spec : {M : Type 1} → statement M
 check-spec =
     tie.close
     (tie.spec
-    (λ c. few-parties _ _ _ _ (c .if1 .taken))
-    (λ c. many-parties _ _ _ _ (c .if2 .taken))
-    (λ c. no-threshold _ _ _ _ (omega arith) (omega arith) (c .if3 .taken))
+    (λ c. few-parties _ _ _ _ (omega arith))
+    (λ c. many-parties _ _ _ _ (omega arith))
+    (λ c. no-threshold _ _ _ _ (omega arith) (omega arith) (omega arith))
     (λ c κs. search needs)
     (λ c κs. search needs)
     (λ c κs. search needs)
