@@ -1,6 +1,6 @@
 -- Worked examples, computed from the very definitions and compared with what other means gave: the rows in the scheme of the paper's Figure 2b; the
--- shares of two blocks, the second one padded; and those in a scheme with two keys a row, two rows in its first group and copies of three
--- coefficients a row.
+-- shares of two blocks, the second one padded; those in a scheme with two keys a row, two rows in its first group and copies of three coefficients
+-- a row; and those of 16 parties, of one row with one key.
 -- Assumes nothing.
 use mathlib.Core.Path.{_≡_, refl}
 use mathlib.Core.List.{[], _∷_}
@@ -29,5 +29,7 @@ pub examples :
     ∷ 14 ∷ 128 ∷ 23 ∷ 188 ∷ 214
     ∷ 170 ∷ 74 ∷ 130 ∷ 250 ∷ 240
     ∷ 206 ∷ 133 ∷ 215 ∷ 123 ∷ 89 ∷ [])
+    × (shares (parameters 16 14 1 (2 ∷ [])) (5 ∷ []) (9 ∷ [])
+    ≡ 12 ∷ 3 ∷ 6 ∷ 29 ∷ 24 ∷ 23 ∷ 18 ∷ 33 ∷ 36 ∷ 43 ∷ 46 ∷ 53 ∷ 48 ∷ 63 ∷ 58 ∷ 89 ∷ [])
 unfolding shares sharesOfBlocks shareOfBlocks staircase padded blockCount blockLength firstFrom commonMultiple divides rowsOfBlock rowsOfCount rowsOf withGroups keyed rowOf copied pieces flat piece tabulate joined point eval next _⊕_ _⊗_ byte.product reduce cut
-examples = (refl, refl, refl)
+examples = (refl, refl, refl, refl)

@@ -13,7 +13,7 @@ use Rattle.scheme.specs.Check.{rowsOfCount}
 use Rattle.scheme.specs.Facts as facts
 use Rattle.staircase.specs.Coefficients.{groupOf, countOf, origin}
 use Rattle.staircase.proofs.Groups.{count-above, counts-fall, rows-rise, rows-most, group-within, group-least}
-use Rattle.staircase.proofs.Origin.{Once, origin-below, origin-onto, origin-forward, origin-once}
+use Rattle.staircase.proofs.Origin.{Once, origin-below, origin-onto, origin-forward, rows-once}
 
 -- the message byte at place p stands in one of the rows from `from` up, below P, at a degree from z, below d
 pub record Stands (m z : ℕ) (ds : List ℕ) (P d from p : ℕ) : Type 0 where
@@ -111,7 +111,7 @@ module _ (n r z : ℕ) (ds : List ℕ) (m b : ℕ) (A : facts.SchemeFacts n r z 
         wide = wide;
         own = own;
         place = λ j e h l u. origin-below n r z ds m b A j e (omega (arith, most)) l (omega (arith, wide j h));
-        once = rw (P-is, d-is) (origin-once n r z ds m b A i hi);
+        once = rw (P-is, d-is) (rows-once n r z ds m b A i hi);
         again = λ j e h. forward (i - groupOf m z ds j) (groupOf m z ds j) (omega (arith, group-first j h)) j e (own j h);
         onto =
             λ p h.

@@ -1,19 +1,24 @@
--- Where a coefficient comes from: a copy comes from an earlier row, and every way of copies ends at a message byte of the block.
+-- Where a coefficient comes from: a copy comes from an earlier row, every way of copies ends at a message byte of the block, and no key and, among
+-- the rows that a count sends or of one group, no message byte is used twice.
 -- By the facts of an accepted scheme on the groups, and by induction on a bound of the rows.
 -- Assumes nothing.
 use mathlib.Core.Path.{_≡_, refl, sym, ap, ap₂, _∙_}
 use mathlib.Core.List.{List}
 use mathlib.Core.Logic.{⊎-elim}
 use Prim.Native.Nat.{ℕ, zero, suc, _+_, _-_, _*_, _/_, _%_, _≤_, _<_}
-use native.Mathlib.Nat.{div-add-mod', eq-zero-or-pos}
+use native.Mathlib.Nat.{mul-assoc, mul-comm, div-add-mod', eq-zero-or-pos}
 use native.Mathlib.Omega.{arith}
 use lib.ListN.{length, getD}
 use borrow.Author.Tests.{eq-eqb, ne-eqb}
 use Rattle.lists.proofs.Tests.{lt-or-le}
+use Rattle.lists.proofs.Each.{occurs-place}
 use Rattle.lists.proofs.Joined.{below-product, in-grid, row-of, place-of, same-place}
 use Rattle.scheme.specs.Check.{rowsOfCount}
 use Rattle.scheme.specs.Facts as facts
+use Rattle.scheme.proofs.Laws.{accepted}
+use Rattle.staircase.specs.Parameters.{Parameters, AcceptedScheme, block, rows}
 use Rattle.staircase.specs.Coefficients.{groupOf, countOf, originIn, origin}
+use Rattle.staircase.specs.UsedOnce.{KeyOnce, OriginOnce, OriginOnceInGroup}
 use Rattle.staircase.proofs.Groups.{count-above, counts-fall, rows-most, group-place, group-above, group-within, group-least, group-is}
 
 -- ---- one step of the search for an origin
@@ -263,18 +268,43 @@ module _ (n r z : ℕ) (ds : List ℕ) (m b : ℕ) (A : facts.SchemeFacts n r z 
       (u .0, omega (arith, u .1))
 
   -- the rows of a count hold each message byte at most once, at the degrees from z and below the count
-  pub origin-once : (i : ℕ) → i < length ds → Once z (rowsOfCount m z (getD ds i 0)) (getD ds i 0) (origin m z ds)
-  origin-once zero h = first-once
-  origin-once (suc i) h =
+  pub rows-once : (i : ℕ) → i < length ds → Once z (rowsOfCount m z (getD ds i 0)) (getD ds i 0) (origin m z ds)
+  rows-once zero h = first-once
+  rows-once (suc i) h =
       let s : i + 1 ≡ suc i = omega arith in
-      rw s at (next i (omega arith) (origin-once i (omega arith)))
+      rw s at (next i (omega arith) (rows-once i (omega arith)))
 
   -- so do the rows of one group
-  pub origin-once-in-group : (j e j′ e′ : ℕ) → j < b → z ≤ e → e < countOf m z ds j → j′ < b → z ≤ e′ → e′ < countOf m z ds j′
+  group-once : (j e j′ e′ : ℕ) → j < b → z ≤ e → e < countOf m z ds j → j′ < b → z ≤ e′ → e′ < countOf m z ds j′
       → groupOf m z ds j ≡ groupOf m z ds j′ → origin m z ds j e ≡ origin m z ds j′ e′ → (j ≡ j′) × (e ≡ e′)
   unfolding countOf
-  origin-once-in-group j e j′ e′ hj ze he hj′ ze′ he′ g x =
+  group-once j e j′ e′ hj ze he hj′ ze′ he′ g x =
       let i : ℕ = groupOf m z ds j in
       let place : i < length ds = group-place n r z ds m b A j hj in
-      origin-once i place j e j′ e′ (group-within m z j ds place) ze he
+      rows-once i place j e j′ e′ (group-within m z j ds place) ze he
       (rw g (group-within m z j′ ds (group-place n r z ds m b A j′ hj′))) ze′ (rw g he′) x
+
+-- ---- the same as statements about parameters, beside that of the keys
+
+pub origin-once : (p : Parameters) → AcceptedScheme p → OriginOnce p
+origin-once p ok d counted =
+    let found = occurs-place d (p .counts) counted in
+    rw (found .2) at (rows-once (p .n) (p .r) (p .z) (p .counts) (block p) (rows p) (accepted (p .n) (p .r) (p .z) (p .counts) ok) (found .0) (found .1))
+
+pub origin-once-in-group : (p : Parameters) → AcceptedScheme p → OriginOnceInGroup p
+origin-once-in-group p ok =
+    group-once (p .n) (p .r) (p .z) (p .counts) (block p) (rows p) (accepted (p .n) (p .r) (p .z) (p .counts) ok)
+
+pub key-once : (p : Parameters) → KeyOnce p
+key-once p =
+    record {
+      within =
+          λ N t j e ht hj he.
+          rw (mul-assoc N (p .z) (rows p), mul-comm (p .z) (rows p), ← mul-assoc N (rows p) (p .z))
+          (below-product (t * rows p + j) (N * rows p) e (p .z) (below-product t N j (rows p) ht hj) he);
+      once =
+          λ t j e t′ j′ e′ hj he hj′ he′ same.
+          let row = same-place (t * rows p + j) e (t′ * rows p + j′) e′ (p .z) he he′ same in
+          let block = same-place t j t′ j′ (rows p) hj hj′ (row .0) in
+          (block .0, block .1, row .1);
+    }

@@ -1,6 +1,7 @@
--- Laws of a party's point: it is a byte, and distinct parties of an accepted scheme have distinct points. Nothing else is known of it, but where
--- the code works it out (`point_of` of rows) and in the worked examples, which compute.
+-- Laws of a party's point: it is the party's number; it is a byte, and distinct parties of an accepted scheme have distinct points. The layers above
+-- use the last two alone, but where the code works it out (`point_of` of rows) and in the worked examples, which compute.
 -- Assumes nothing.
+use mathlib.Core.Path.{_≡_, refl}
 use mathlib.Core.Logic.{_≢_}
 use mathlib.Core.List.{List, [], _∷_, map}
 use Prim.Native.Nat.{ℕ}
@@ -8,6 +9,10 @@ use native.Mathlib.Omega.{arith}
 use Rattle.lists.specs.Each.{Each, Distinct, Byte}
 use Rattle.scheme.proofs.Laws.{accepted}
 use Rattle.staircase.specs.Parameters.{Parameters, AcceptedScheme, Party, point}
+
+pub point-is : (p : Parameters) (s : ℕ) → point p s ≡ s
+unfolding point
+point-is p s = refl
 
 module _ (p : Parameters) (A : AcceptedScheme p) where
   pub point-byte : (s : ℕ) → Party p s → Byte (point p s)

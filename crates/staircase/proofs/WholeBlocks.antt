@@ -19,6 +19,7 @@ use Rattle.family.specs.Message.{Bytes}
 use Rattle.family.specs.Exactness as family
 use Rattle.family.proofs.Exactness.{blocks-exact}
 use Rattle.staircase.specs.Parameters.{Parameters, AcceptedScheme, Party, defaultParameters, block, rows, point}
+use Rattle.staircase.specs.Coefficients.{keyPlace}
 use Rattle.staircase.specs.Shares.{staircase}
 use Rattle.staircase.specs.Opening.{openedBlock}
 use Rattle.staircase.specs.Exactness.{prefixBytes, openedString, Opened, Exactness}
@@ -51,7 +52,7 @@ module _ (p : Parameters) (A : AcceptedScheme p) (parties : List ℕ) (counted :
 
   -- a key of the first rows, in the whole key string and in its block's piece
   key-at : (N t j e : ℕ) (keys : List ℕ) → j < sent → e < p .z
-      → getD (take (sent * p .z) (piece (staircase p .keys) t keys)) (j * p .z + e) 0 ≡ getD keys ((t * rows p + j) * p .z + e) 0
+      → getD (take (sent * p .z) (piece (staircase p .keys) t keys)) (j * p .z + e) 0 ≡ getD keys (keyPlace (rows p) (p .z) t j e) 0
   unfolding staircase
   key-at N t j e keys hj he =
       let few = rows-within p A (length parties) counted in

@@ -40,9 +40,13 @@ origin m z ds j e = originIn m z ds (suc j) j e
 unfoldable pub coefficient : ℕ → ℕ → List ℕ → List ℕ → List ℕ → ℕ → ℕ → ℕ
 coefficient m z ds block keys j e = cond (ltb e z) (getD keys (j * z + e) 0) (getD block (origin m z ds j e) 0)
 
+-- the place of the key of degree e, below z, of row j of block t, where a block has b rows
+abbrev pub keyPlace : ℕ → ℕ → ℕ → ℕ → ℕ → ℕ
+keyPlace b z t j e = (t * b + j) * z + e
+
 -- the coefficient of degree e of row j of block t, of blocks and their keys one after another
 unfoldable pub coefficientAt : ℕ → ℕ → ℕ → List ℕ → List ℕ → List ℕ → ℕ → ℕ → ℕ → ℕ
-coefficientAt m b z ds blocks keys t j e = cond (ltb e z) (getD keys ((t * b + j) * z + e) 0) (getD blocks (t * m + origin m z ds j e) 0)
+coefficientAt m b z ds blocks keys t j e = cond (ltb e z) (getD keys (keyPlace b z t j e) 0) (getD blocks (t * m + origin m z ds j e) 0)
 
 -- byte i of the share of N blocks at the point x: the value there of row i ÷ N of block i mod N
 unfoldable pub shareByte : ℕ → ℕ → ℕ → List ℕ → List ℕ → List ℕ → ℕ → ℕ → ℕ → ℕ

@@ -3,7 +3,7 @@
 use mathlib.Core.Path.{_≡_}
 use mathlib.Core.Bool.{true}
 use mathlib.Core.List.{List, map}
-use Prim.Native.Nat.{ℕ, _+_, _*_, _≤_, _<_}
+use Prim.Native.Nat.{ℕ, _*_, _≤_, _<_}
 use lib.ListN.{length, getD}
 use Rattle.lists.specs.Each.{Each, Distinct, occurs}
 use Rattle.scheme.specs.Limits.{maxMessage}
@@ -11,6 +11,7 @@ use Rattle.family.specs.Message.{Bytes}
 use Rattle.family.specs.Exactness as family
 use Rattle.family.specs.Exactness.{openedBlocks}
 use Rattle.staircase.specs.Parameters.{Parameters, Party, block, rows, prefixRows, blocksOf, point}
+use Rattle.staircase.specs.Coefficients.{keyPlace}
 use Rattle.staircase.specs.Shares.{staircase, KeyString}
 use Rattle.staircase.specs.Opening.{openedBlock}
 
@@ -43,7 +44,7 @@ pub record Opened (p : Parameters) (message : ℕ) (parties prefixes : List ℕ)
       → Bytes (blocksOf p message * block p) blocks′ → KeyString p message keys → KeyString p message keys′
       → GivesPrefixes p parties (blocksOf p message) blocks keys prefixes → GivesPrefixes p parties (blocksOf p message) blocks′ keys′ prefixes
       → (t j e : ℕ) → t < blocksOf p message → j < prefixRows p (length parties) → e < p .z
-      → getD keys ((t * rows p + j) * p .z + e) 0 ≡ getD keys′ ((t * rows p + j) * p .z + e) 0
+      → getD keys (keyPlace (rows p) (p .z) t j e) 0 ≡ getD keys′ (keyPlace (rows p) (p .z) t j e) 0
 
 -- of an accepted scheme (`exactness` in proofs/WholeBlocks.antt): for every length, every list of as many distinct parties as a count, and every string of as many bytes as their prefixes have
 abbrev pub Exactness : Parameters → Type 0

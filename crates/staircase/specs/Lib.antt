@@ -1,6 +1,7 @@
 pub mod Parameters
 pub mod Rows
 pub mod Coefficients
+pub mod UsedOnce
 pub mod Shares
 pub mod Construction
 pub mod Mask

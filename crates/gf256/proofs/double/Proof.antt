@@ -9,9 +9,13 @@ use Rattle.gf256.specs.Byte.{_⊕_, product, cut, reduce, _⊗_}
 use Rattle.gf256.proofs.double.Statement.{statement}
 use Rattle.gf256.proofs.double.Tie as tie
 
-doubled : (x : ℕ) → x < 256 → (x % 128 * 2) ⊕ (x / 128 * 0x1b) ≡ x ⊗ 2
+-- what the code works out
+abbrev twice : ℕ → ℕ
+twice x = (x % 128 * 2) ⊕ (x / 128 * 0x1b)
+
+doubled : (x : ℕ) → x < 256 → twice x ≡ x ⊗ 2
 unfolding _⊗_ product reduce _⊕_ cut
-doubled x h = eqb→eq ((x % 128 * 2) ⊕ (x / 128 * 0x1b)) (x ⊗ 2) (holds 256 (λ x. eqb ((x % 128 * 2) ⊕ (x / 128 * 0x1b)) (x ⊗ 2)) tt x h)
+doubled x h = eqb→eq (twice x) (x ⊗ 2) (holds 256 (λ x. eqb (twice x) (x ⊗ 2)) tt x h)
 
 pub double-spec : {M : Type 1} → statement M
 unfolding _⊕_
