@@ -2,4 +2,5 @@ mod Filled
 mod Put
 mod Batches
 mod Dealing
+pub mod Examples
 pub mod Laws

@@ -1,2 +1,3 @@
 mod Handing
+pub mod Examples
 pub mod Laws

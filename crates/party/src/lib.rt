@@ -7,7 +7,11 @@ ghost use Rattle.staircase.specs.Parameters.{parameters, defaultParameters};
 ghost use Rattle.party.specs.Prefix.{prefixAnswer, prefixOf};
 use scheme::Answer;
 use scheme::SchemeAnswer;
-use scheme::limits;
+use scheme::limits::DEFAULT_COUNTS;
+use scheme::limits::DEFAULT_N;
+use scheme::limits::DEFAULT_R;
+use scheme::limits::DEFAULT_Z;
+use scheme::limits::MAX_MESSAGE;
 
 // The length of the prefix for the count d of a share of a message of so many bytes. Refusals 1 to
 // 4: those of the scheme. 5: the message is too long. 6: d is not a count. 9: the share's length is
@@ -27,14 +31,16 @@ pub fn prefix_length(
     let SchemeAnswer::Accepted(s) = answer else {
         return Answer::Refused(scheme::refusal(answer));
     };
-    if limits::MAX_MESSAGE < message_length {
+    let counted = scheme::is_count(d, counts);
+    if MAX_MESSAGE < message_length {
         return Answer::Refused(5);
     }
-    if !scheme::is_count(d, counts) {
+    let blocks = scheme::block_count(s.block, message_length);
+    let share_bytes = blocks * s.rows;
+    if !counted {
         return Answer::Refused(6);
     }
-    let blocks = scheme::block_count(s.block, message_length);
-    if share.len() != blocks * s.rows {
+    if share.len() != share_bytes {
         return Answer::Refused(9);
     }
     Answer::Value(scheme::rows_of_count(s.block, z, d) * blocks)
@@ -63,11 +69,11 @@ pub fn prefix<'a>(
 pub fn prefix_length_default(message_length: usize, d: usize, share: &[u8]) -> Answer
     ensures { λ a. ⌜ outcome a ≡ prefixAnswer defaultParameters «message_length» d (length (now (share .entry))) ⌝ }
 {
-    let counts = limits::DEFAULT_COUNTS;
+    let counts = DEFAULT_COUNTS;
     prefix_length(
-        limits::DEFAULT_N,
-        limits::DEFAULT_R,
-        limits::DEFAULT_Z,
+        DEFAULT_N,
+        DEFAULT_R,
+        DEFAULT_Z,
         &counts,
         message_length,
         d,
@@ -79,11 +85,11 @@ pub fn prefix_length_default(message_length: usize, d: usize, share: &[u8]) -> A
 pub fn prefix_default<'a>(message_length: usize, d: usize, share: &'a [u8]) -> &'a [u8]
     ensures { λ part. ⌜ (now part ≡ prefixOf defaultParameters «message_length» d (now (share .entry))) × (part .ptr ≡ share .entry .ptr) ⌝ }
 {
-    let counts = limits::DEFAULT_COUNTS;
+    let counts = DEFAULT_COUNTS;
     prefix(
-        limits::DEFAULT_N,
-        limits::DEFAULT_R,
-        limits::DEFAULT_Z,
+        DEFAULT_N,
+        DEFAULT_R,
+        DEFAULT_Z,
         &counts,
         message_length,
         d,

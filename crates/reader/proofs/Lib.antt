@@ -8,4 +8,5 @@ mod RowOrder
 mod GroupOrder
 mod Reading
 mod OpenerAnswers
+pub mod Examples
 pub mod Laws

@@ -39,34 +39,38 @@ split-spec =
     let b = c .before .before in
     let is = scheme-of (b .before .before) in
     omega (arith, keys-whole _ _ is _ _ _ (b .block-count .ensures) (b .before .if1 .left) (c .before .wide .ensures)))
+    (λ c κs. search needs)
     (λ c.
     let b = c .before .before .before in
     let is = scheme-of (b .before .before) in
-    let long = keys-length _ _ is _ _ _ (b .block-count .ensures) (c .before .before .wide .ensures) in
-    refuses _ (pass (is .passed) (pass-within 5 (b .before .if1 .left) (stop-other (λ e. c .if2 .taken (e ∙ sym long))))))
-    (λ c κs. search needs)
+    omega (arith, output-part _ _ is _ _ _ (b .block-count .ensures) (b .before .if1 .left) (c .wide2 .ensures)))
     (λ c.
     let b = c .before .before .before .before in
     let is = scheme-of (b .before .before) in
-    omega (arith, output-part _ _ is _ _ _ (b .block-count .ensures) (b .before .if1 .left) (c .wide2 .ensures)))
-    (λ c.
-    let b = c .before .before .before .before .before in
-    let is = scheme-of (b .before .before) in
     omega (arith, output-whole _ _ is _ _ _ (b .block-count .ensures) (b .before .if1 .left) (c .before .wide2 .ensures)))
     (λ c.
-    let k = c .before .before .before in
-    let b = k .before .before .before in
+    let w = c .before .before .before .before in
+    let b = w .before in
     let is = scheme-of (b .before .before) in
-    let enough = k .if2 .left ∙ keys-length _ _ is _ _ _ (b .block-count .ensures) (k .before .before .wide .ensures) in
-    let long = output-length _ _ is _ _ _ (b .block-count .ensures) (c .before .before .wide2 .ensures) in
+    let long = keys-length _ _ is _ _ _ (b .block-count .ensures) (w .wide .ensures) in
+    refuses _ (pass (is .passed) (pass-within 5 (b .before .if1 .left) (stop-other (λ e. c .if2 .taken (e ∙ sym long))))))
+    (λ c.
+    let k = c .before in
+    let v = k .before .before in
+    let w = v .before .before in
+    let b = w .before in
+    let is = scheme-of (b .before .before) in
+    let enough = k .if2 .left ∙ keys-length _ _ is _ _ _ (b .block-count .ensures) (w .wide .ensures) in
+    let long = output-length _ _ is _ _ _ (b .block-count .ensures) (v .wide2 .ensures) in
     refuses _ (pass (is .passed) (pass-within 5 (b .before .if1 .left) (pass-same 8 enough (stop-other (λ e. c .if3 .taken (e ∙ sym long)))))))
     (λ c κs.
     let o = c .before in
-    let b = o .before .before .before .before .before .before in
+    let v = o .before .before .before in
+    let b = v .before .before .before in
     let is = scheme-of (b .before .before) in (
       scheme-own _ _ _ _ _ is,
       blocks-few _ _ is _ _ (b .block-count .ensures) (b .before .if1 .left),
-      o .if3 .left ∙ output-parts _ _ is _ _ _ (b .block-count .ensures) (o .before .before .wide2 .ensures),
+      o .if3 .left ∙ output-parts _ _ is _ _ _ (b .block-count .ensures) (v .wide2 .ensures),
     ))
     (λ c.
     let o = c .before .before .before .before .before in
@@ -76,10 +80,12 @@ split-spec =
     (λ c.
     let f = c .before .before .before in
     let o = f .before .before in
-    let k = o .before .before .before in
-    let b = k .before .before .before in
+    let k = o .before in
+    let v = k .before .before in
+    let w = v .before .before in
+    let b = w .before in
     let is = scheme-of (b .before .before) in
-    let enough = k .if2 .left ∙ keys-length _ _ is _ _ _ (b .block-count .ensures) (k .before .before .wide .ensures) in
-    let room = o .if3 .left ∙ output-length _ _ is _ _ _ (b .block-count .ensures) (o .before .before .wide2 .ensures) in
+    let enough = k .if2 .left ∙ keys-length _ _ is _ _ _ (b .block-count .ensures) (w .wide .ensures) in
+    let room = o .if3 .left ∙ output-length _ _ is _ _ _ (b .block-count .ensures) (v .wide2 .ensures) in
     let out = b .before .before .before .before .before .before .before .before .before .before .args .out .now in
     deals _ _ is _ _ out _ (b .block-count .ensures) (b .before .if1 .left) enough room _ (f .fill-shares .ensures)))
