@@ -12,13 +12,13 @@ use Rattle.interpolation.specs.RowValue.{valuesOf}
 use Rattle.scheme.specs.declared.Scheme.{Scheme}
 use Rattle.columns.specs.Columns.{strided}
 use Rattle.staircase.specs.Parameters.{parametersOf, point}
-use Rattle.staircase.specs.Coefficients.{origin, shareByte}
+use Rattle.staircase.specs.Coefficients.{origin, keyPlace, shareByte}
 use Rattle.rows.specs.Sources.{RowOrigins}
 
 -- the coefficient of degree e of row j in 64 blocks from t on: key bytes, or the message bytes at its origin, 0 past their ends
 unfoldable pub column : ℕ → ℕ → ℕ → List ℕ → List ℕ → List ℕ → ℕ → ℕ → ℕ → List ℕ
 column m b z ds message keys t j e =
-    cond (ltb e z) (strided keys ((t * b + j) * z + e) (b * z)) (strided message (t * m + origin m z ds j e) m)
+    cond (ltb e z) (strided keys (keyPlace b z t j e) (b * z)) (strided message (t * m + origin m z ds j e) m)
 
 -- o became w: in each of the first `parts` of the parts of m bytes, the bytes from q on, `many` of them, are by the rule g, and nothing else changed
 pub record Filled (m q many : ℕ) (g : ℕ → ℕ → ℕ) (parts : ℕ) (o w : List ℕ) : Type 0 where

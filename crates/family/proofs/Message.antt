@@ -9,17 +9,16 @@ use lib.ListN.{length, take, replicate, length-append, length-replicate}
 use lib.Seq.{take-at}
 use Rattle.lists.specs.Each.{Each, Byte}
 use Rattle.lists.specs.Table.{joined, piece}
-use Rattle.lists.proofs.Numbers.{round-up-covers}
 use Rattle.lists.proofs.Each.{each-append, each-replicate, each-joined}
 use Rattle.lists.proofs.Joined.{length-joined}
 use Rattle.lists.proofs.Piece.{length-piece, each-piece}
 use Rattle.scheme.specs.Check.{blockCount}
+use Rattle.scheme.proofs.Laws.{block-count-least}
 use Rattle.family.specs.Message.{Bytes, padded}
 
 -- a message fits its blocks
 pub blocks-cover : (m bytes : ℕ) → 0 < m → bytes ≤ blockCount m bytes * m
-unfolding blockCount
-blocks-cover m bytes positive = round-up-covers bytes m positive
+blocks-cover m bytes positive = block-count-least m bytes positive .enough
 
 pub length-padded : (m : ℕ) (message : List ℕ) → 0 < m → length (padded m message) ≡ blockCount m (length message) * m
 unfolding padded

@@ -6,24 +6,16 @@ use Rattle.lists.specs.Each.{occurs}
 use Rattle.scheme.specs.Outcome.{accepted, firstOf, answer}
 use Rattle.scheme.specs.BlockLength.{divides, firstFrom, commonMultiple, blockLength}
 use Rattle.scheme.specs.Check.{falls, partiesRefused, thresholdsRefused, countsRefused, blockRefused, refusal, rowsOfCount, rowsOfBlock, blockCount}
-use Rattle.staircase.specs.Parameters.{Parameters, parameters}
+use Rattle.staircase.specs.Parameters.{parameters, schemeA}
 use Rattle.party.specs.Prefix.{prefixRefusal, prefixLength, prefixAnswer}
 
--- document 01's plan A, with blocks of 2 bytes and 2 rows, and the same with counts that do not end at n − r
-abbrev schemeA : Parameters
-schemeA = parameters 3 1 1 (3 ∷ 2 ∷ [])
-
-abbrev refusedThree : Parameters
-refusedThree = parameters 3 1 1 (3 ∷ [])
-
 pub examples :
-    -- the scheme before 5, 5 before 6, 6 before 9, and 9 alone
-    (prefixRefusal refusedThree 16385 3 16386 ≡ 3)
+    -- the scheme before 5, 5 before 6, 6 before 9
+    (prefixRefusal (parameters 3 1 1 (3 ∷ [])) 16385 3 16386 ≡ 3)
     × (prefixRefusal schemeA 16385 1 16386 ≡ 5)
     × (prefixRefusal schemeA 2 1 1 ≡ 6)
-    × (prefixRefusal schemeA 2 3 1 ≡ 9)
     -- the longest message, and one that is longer
     × (prefixAnswer schemeA 16384 3 16384 ≡ accepted (8192 ∷ []))
     × (prefixRefusal schemeA 16385 3 16386 ≡ 5)
 unfolding divides firstFrom commonMultiple blockLength falls partiesRefused thresholdsRefused countsRefused blockRefused firstOf answer refusal rowsOfCount rowsOfBlock blockCount occurs prefixRefusal prefixLength prefixAnswer
-examples = (refl, refl, refl, refl, refl, refl)
+examples = (refl, refl, refl, refl, refl)

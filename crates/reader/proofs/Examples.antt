@@ -15,35 +15,26 @@ use Rattle.scheme.specs.BlockLength.{divides, firstFrom, commonMultiple, blockL
 use Rattle.scheme.specs.Check.{falls, partiesRefused, thresholdsRefused, countsRefused, blockRefused, refusal, rowsOfCount, rowsOfBlock, blockCount}
 use Rattle.scheme.specs.Readers.{rises, within, readersRefused}
 use Rattle.family.specs.Exactness.{readings, openedBlocks}
-use Rattle.staircase.specs.Parameters.{Parameters, parameters, point}
+use Rattle.staircase.specs.Parameters.{parameters, schemeA, point}
 use Rattle.staircase.specs.Coefficients.{groupOf, countOf, originIn, origin}
 use Rattle.staircase.specs.Opening.{upperPart, lowerPart, placed, openedFrom, openedBlock}
 use Rattle.staircase.specs.Exactness.{prefixBytes, openedString}
 use Rattle.reader.specs.Basis.{basisRefusal, basisAnswer, basisOf}
 use Rattle.reader.specs.Reconstruct.{reconstructRefusal, reconstructAnswer, reconstructOutput}
 
--- document 01's plan A, with blocks of 2 bytes and 2 rows, and the same with counts that do not end at n − r
-abbrev schemeA : Parameters
-schemeA = parameters 3 1 1 (3 ∷ 2 ∷ [])
-
-abbrev refusedThree : Parameters
-refusedThree = parameters 3 1 1 (3 ∷ [])
-
 pub examples :
-    -- the basis: the scheme before 6, 6 before 7, and 7 alone
-    (basisRefusal refusedThree (1 ∷ []) ≡ 3)
+    -- the basis: the scheme before 6, 6 before 7
+    (basisRefusal (parameters 3 1 1 (3 ∷ [])) (1 ∷ []) ≡ 3)
     × (basisRefusal schemeA (4 ∷ []) ≡ 6)
-    × (basisRefusal schemeA (2 ∷ 2 ∷ []) ≡ 7)
     -- of parties 2 and 3: x + 3 is 1 at 2 and 0 at 3, x + 2 is 0 at 2 and 1 at 3
     × (basisAnswer schemeA (2 ∷ 3 ∷ []) ≡ accepted (2 ∷ []))
     × (basisOf schemeA (2 ∷ 3 ∷ []) ≡ (3 ∷ 1 ∷ replicate 14 0) ∷ (2 ∷ 1 ∷ replicate 14 0) ∷ replicate 14 (replicate 16 0))
-    -- the opener: the scheme before 5, 5 before 6, 6 before 7, 7 before 9, 9 before 10, and 10 alone
-    × (reconstructRefusal refusedThree 16385 (1 ∷ 2 ∷ 3 ∷ []) 24579 16385 ≡ 3)
+    -- the opener: the scheme before 5, 5 before 6, 6 before 7, 7 before 9, 9 before 10
+    × (reconstructRefusal (parameters 3 1 1 (3 ∷ [])) 16385 (1 ∷ 2 ∷ 3 ∷ []) 24579 16385 ≡ 3)
     × (reconstructRefusal schemeA 16385 (1 ∷ []) 16386 16385 ≡ 5)
     × (reconstructRefusal schemeA 2 (4 ∷ []) 2 2 ≡ 6)
     × (reconstructRefusal schemeA 2 (2 ∷ 2 ∷ []) 3 2 ≡ 7)
     × (reconstructRefusal schemeA 2 (1 ∷ 3 ∷ []) 3 1 ≡ 9)
-    × (reconstructRefusal schemeA 2 (1 ∷ 3 ∷ []) 4 1 ≡ 10)
     -- the longest message, and one that is longer
     × (reconstructAnswer schemeA 16384 (1 ∷ 2 ∷ 3 ∷ []) 24576 16384 ≡ accepted (24576 ∷ []))
     × (reconstructRefusal schemeA 16385 (1 ∷ 2 ∷ 3 ∷ []) 24579 16385 ≡ 5)
@@ -52,4 +43,4 @@ pub examples :
     × (reconstructAnswer schemeA 1 (1 ∷ 2 ∷ 3 ∷ []) 3 1 ≡ accepted (3 ∷ []))
     × (reconstructOutput schemeA 1 (1 ∷ 2 ∷ 3 ∷ []) (11 ∷ 31 ∷ 29 ∷ []) (0 ∷ []) ≡ 5 ∷ [])
 unfolding _⊕_ _⊗_ byte.product reduce cut inverse inverseBelow next eval plus scale linear above vanishing through fitted unit basis weight basisTable divides firstFrom commonMultiple blockLength falls partiesRefused thresholdsRefused countsRefused blockRefused firstOf answer refusal rowsOfCount rowsOfBlock blockCount rises within readersRefused occurs distinct tabulate joined readings openedBlocks point groupOf countOf originIn origin upperPart lowerPart placed openedFrom openedBlock prefixBytes openedString basisRefusal basisAnswer basisOf reconstructRefusal reconstructAnswer reconstructOutput
-examples = (refl, refl, refl, refl, refl, refl, refl, refl, refl, refl, refl, refl, refl, refl, refl, refl)
+examples = (refl, refl, refl, refl, refl, refl, refl, refl, refl, refl, refl, refl, refl, refl)

@@ -25,11 +25,9 @@ default-accepted = refl
 pub examples :
     -- the default: 4, 3 and 2 are to divide m
     (checked defaultN defaultR defaultZ defaultCounts ≡ accepted (5 ∷ 2 ∷ 1 ∷ 12 ∷ 6 ∷ []))
-    -- at the limits: 2 and 16 parties, 8 counts, m 840
-    × (checked 2 0 1 (2 ∷ []) ≡ accepted (2 ∷ 0 ∷ 1 ∷ 1 ∷ 1 ∷ []))
+    -- at the limits: 16 parties, 8 counts, m 840
     × (checked 16 11 1 (16 ∷ 15 ∷ 13 ∷ 11 ∷ 9 ∷ 7 ∷ 6 ∷ 5 ∷ []) ≡ accepted (16 ∷ 11 ∷ 1 ∷ 840 ∷ 210 ∷ []))
-    -- past them: 17 parties, 9 counts, m 858
-    × (checked 17 0 1 (17 ∷ []) ≡ refused 1)
+    -- past them: 9 counts, m 858
     × (checked 16 11 1 (16 ∷ 15 ∷ 13 ∷ 11 ∷ 9 ∷ 8 ∷ 7 ∷ 6 ∷ 5 ∷ []) ≡ refused 3)
     × (blockLength 1 (14 ∷ 12 ∷ 7 ∷ []) ≡ 858)
     × (checked 14 7 1 (14 ∷ 12 ∷ 7 ∷ []) ≡ refused 4)
@@ -44,4 +42,4 @@ pub examples :
     × (blockCount 12 12 ≡ 1)
     × (blockCount 12 13 ≡ 2)
 unfolding divides firstFrom commonMultiple blockLength falls partiesRefused thresholdsRefused countsRefused blockRefused firstOf answer refusal rowsOfCount rowsOfBlock blockCount checked
-examples = (refl, refl, refl, refl, refl, refl, refl, refl, refl, refl, refl, refl, refl, refl)
+examples = (refl, refl, refl, refl, refl, refl, refl, refl, refl, refl, refl, refl)

@@ -18,7 +18,7 @@ use Rattle.scheme.specs.Check.{falls, partiesRefused, thresholdsRefused, counts
 use Rattle.family.specs.Message.{padded}
 use Rattle.family.specs.Family.{shareOfBlocks, sharesOfBlocks}
 use Rattle.family.specs.Exactness.{readings, openedBlocks}
-use Rattle.staircase.specs.Parameters.{Parameters, block, point}
+use Rattle.staircase.specs.Parameters.{Parameters, schemeA, block, point}
 use Rattle.staircase.specs.Rows.{rowOf, keyed, copied, withGroups, rowsOf}
 use Rattle.staircase.specs.Coefficients.{groupOf, countOf, originIn, origin, coefficient}
 use Rattle.staircase.specs.Opening.{blockRow, upperPart, lowerPart, placed, openedFrom, openedBlock}
@@ -30,7 +30,7 @@ use Rattle.dealer.specs.Split.{splitRefusal, splitAnswer, splitOutput}
 use Rattle.staircase.specs.Exactness.{prefixBytes, openedString}
 use Rattle.reader.specs.Reconstruct.{reconstructRefusal, reconstructAnswer, reconstructOutput}
 use Rattle.sharing.specs.RoundTrip.{handed}
-use Rattle.sharing.specs.Starred.{Holds, schemeA, starred}
+use Rattle.sharing.specs.Starred.{Holds, starred}
 
 -- ---- what an output of the right length held before is of no account
 

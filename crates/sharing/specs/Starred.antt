@@ -11,7 +11,7 @@ use Rattle.gf256.specs.Byte.{_⊗_, inverse}
 use Rattle.scheme.specs.Outcome.{accepted, refused}
 use Rattle.scheme.specs.BlockLength.{blockLength}
 use Rattle.scheme.specs.Check.{checked}
-use Rattle.staircase.specs.Parameters.{Parameters, parameters, block, rows, prefixRows, blocksOf, outputBytes}
+use Rattle.staircase.specs.Parameters.{Parameters, parameters, schemeA, block, rows, prefixRows, blocksOf, outputBytes}
 use Rattle.staircase.specs.Rows.{rowsOf}
 use Rattle.staircase.specs.Opening.{blockRow}
 use Rattle.staircase.specs.Shares.{partOf}
@@ -80,10 +80,6 @@ Holds (opens p parties prefixes message used) =
     (before : List ℕ) → length before ≡ length message
     → (reconstructAnswer p (length message) parties (length prefixes) (length before) ≡ accepted (used ∷ []))
     × (reconstructOutput p (length message) parties prefixes before ≡ message)
-
--- document 01's plan A
-abbrev pub schemeA : Parameters
-schemeA = parameters 3 1 1 (3 ∷ 2 ∷ [])
 
 -- the ten examples; each entry is one of them with all that it claims. The comments have the document's words, in which a scheme is a plan, a
 -- message a letter and a party a site.

@@ -1,7 +1,7 @@
 -- A scheme's parameters, and the numbers that follow from them.
 -- Assumes nothing.
 use mathlib.Core.Path.{_≡_}
-use mathlib.Core.List.{List}
+use mathlib.Core.List.{List, [], _∷_}
 use Prim.Native.Nat.{ℕ, _*_, _≤_}
 use Rattle.scheme.specs.declared.Scheme.{Scheme}
 use Rattle.scheme.specs.Limits.{defaultN, defaultR, defaultZ, defaultCounts}
@@ -54,6 +54,10 @@ point p s = s
 
 abbrev pub parameters : ℕ → ℕ → ℕ → List ℕ → Parameters
 parameters n r z counts = record { n = n; r = r; z = z; counts = counts }
+
+-- document 01's plan A, the scheme of its worked examples
+abbrev pub schemeA : Parameters
+schemeA = parameters 3 1 1 (3 ∷ 2 ∷ [])
 
 -- those of the scheme that the check answered, with its counts
 abbrev pub parametersOf : Scheme → List ℕ → Parameters
