@@ -31,6 +31,7 @@ pub fn prefix_length(
     let SchemeAnswer::Accepted(s) = answer else {
         return Answer::Refused(scheme::refusal(answer));
     };
+    // What a test asks is worked out before it, so that two of them stand in the table's order, side by side.
     let counted = scheme::is_count(d, counts);
     if MAX_MESSAGE < message_length {
         return Answer::Refused(5);

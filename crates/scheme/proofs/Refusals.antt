@@ -14,10 +14,10 @@ use Rattle.scheme.specs.Limits.{maxParties, maxBlock}
 use Rattle.scheme.specs.Outcome.{accepted, refused}
 use Rattle.scheme.specs.BlockLength.{blockLength}
 use Rattle.scheme.specs.Check.{partiesRefused, thresholdsRefused, countsRefused, blockRefused, refusal, rowsOfBlock, checked}
-use Rattle.scheme.specs.Facts.{Sizes}
+use Rattle.scheme.specs.Facts.{ThresholdsFit}
 use Rattle.scheme.proofs.Answers.{done, stop-true, stop-over, pass-false, pass-within, answer-none, answers, numbered, first-if}
 
-pub sizes : (n r z : ℕ) → partiesRefused n ≡ false → thresholdsRefused n r z ≡ false → Sizes n r z
+pub sizes : (n r z : ℕ) → partiesRefused n ≡ false → thresholdsRefused n r z ≡ false → ThresholdsFit n r z
 unfolding partiesRefused thresholdsRefused
 sizes n r z p t =
     let p2 = neither (ltb n 2) (ltb maxParties n) p in
@@ -86,7 +86,7 @@ module _ (n r z : ℕ) (ds : List ℕ) where
     unfolding thresholdsRefused
     no-room e = thresholds-stop (rw (le-leb n (r + z) e, or-true))
 
-  module _ (s : Sizes n r z) where
+  module _ (s : ThresholdsFit n r z) where
     p : partiesRefused n ≡ false
     p = parties-pass n (s .parties-low) (s .parties-high)
 

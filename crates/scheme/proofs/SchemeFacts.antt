@@ -17,18 +17,18 @@ use Rattle.scheme.specs.Outcome.{schemeOutcome}
 use Rattle.scheme.specs.BlockLength.{blockLength, Least}
 use Rattle.scheme.specs.Check.{last, refusal, rowsOfCount, rowsOfBlock, blockCount, checked}
 use Rattle.scheme.specs.Facts as facts
-use Rattle.scheme.specs.Facts.{Sizes, SchemeIs, FewestBlocks}
+use Rattle.scheme.specs.Facts.{ThresholdsFit, SchemeIs, FewestBlocks}
 use Rattle.scheme.proofs.BlockLength.{block-least}
 use Rattle.scheme.proofs.Counts.{Fit, counts-fit, fit-low, fit-high}
 use Rattle.scheme.proofs.Refusals.{sizes, passed}
 use Rattle.scheme.proofs.Answers.{answered-none}
 
 -- every count is above z, as k is positive
-above : (n r z : ℕ) (ds : List ℕ) → Sizes n r z → Fit n r ds → Each (λ d. z < d) ds
+above : (n r z : ℕ) (ds : List ℕ) → ThresholdsFit n r z → Fit n r ds → Each (λ d. z < d) ds
 above n r z ds s f = each-of {A = ℕ} (λ d. z < d) ds 0 (λ i h. omega (arith, fit-low n r ds f i h, s .room))
 
 -- the rows of counts that fall strictly to n − r, all above z, whose d − z all divide m
-module _ (n r z : ℕ) (ds : List ℕ) (s : Sizes n r z) (f : Fit n r ds) (m : ℕ) (least : Least z ds m) where
+module _ (n r z : ℕ) (ds : List ℕ) (s : ThresholdsFit n r z) (f : Fit n r ds) (m : ℕ) (least : Least z ds m) where
   -- P × (d − z) = m
   whole : (i : ℕ) → i < length ds → rowsOfCount m z (getD ds i 0) * (getD ds i 0 - z) ≡ m
   unfolding rowsOfCount

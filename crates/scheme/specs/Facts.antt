@@ -10,7 +10,7 @@ use Rattle.scheme.specs.BlockLength.{blockLength, Least}
 use Rattle.scheme.specs.Check.{first, last, refusal, rowsOfCount, rowsOfBlock}
 
 -- refusals 1 and 2 do not apply: n, r and z alone
-pub record Sizes (n r z : ℕ) : Type 0 where
+pub record ThresholdsFit (n r z : ℕ) : Type 0 where
   pub parties-low : 2 ≤ n
   pub parties-high : n ≤ maxParties
   pub threshold : 0 < z
@@ -18,7 +18,7 @@ pub record Sizes (n r z : ℕ) : Type 0 where
 
 -- an accepted scheme with block length m and b rows a block. The counts are d 0 > d 1 > ..; P d is `rowsOfCount m z d`.
 pub record SchemeFacts (n r z : ℕ) (ds : List ℕ) (m b : ℕ) : Type 0 where
-  pub sizes : Sizes n r z
+  pub sizes : ThresholdsFit n r z
   pub some : 0 < length ds
   pub most : length ds ≤ maxCounts
   pub falling : (i : ℕ) → i + 1 < length ds → getD ds (i + 1) 0 < getD ds i 0

@@ -69,7 +69,7 @@ exact-calls p message parties prefixes before (Value used) after bytes C =
       long = ap length output ∙ length-take-le message _ (rw (opened .bytes .0) (blocks-cover (block p) message positive));
       used-is = told .1;
       used-all = told .1 ∙ sym (r .long);
-      rows-are = rows-of p (r .good) (length parties) (r .count);
+      rows-of-count = rows-of p (r .good) (length parties) (r .count);
     }
 exact-calls p message parties prefixes before (Refused number) after bytes C = C .1 ∙ sym (kept _ (told-refused (Refused number) _ _ (C .0) refl))
 

@@ -129,8 +129,9 @@ EveryReconstruct p =
     (message : ℕ) (parties prefixes before : List ℕ) (a : Answer) (after : List ℕ) → Each Byte prefixes
     → ReconstructCall p message parties prefixes before a after → ReconstructInWords p message parties prefixes before a after
 
--- ---- the words settle a call: two that fit them, given the same, answered and left the same. So a call with another answer or another output anywhere,
--- by its definition or by its code, does not fit them
+-- ---- the words settle a call: two that fit them, given the same, answered and left the same. Refusals, answers and what a refused call leaves are settled
+-- in words. What an accepted call leaves is settled by the definitions that the words cite, which other statements pin: `shares` by `Construction`,
+-- `openedString` by `Opened`, N by `FewestBlocks`, P and b by `SchemeFacts`, the points by `point-is`.
 
 pub record WordsSettle (p : Parameters) : Type 0 where
   pub split : (message keys before : List ℕ) (a a′ : Answer) (after after′ : List ℕ)

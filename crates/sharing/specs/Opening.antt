@@ -23,7 +23,7 @@ pub record OpenedExactly (p : Parameters) (message : ℕ) (parties prefixes : Li
   -- d × P × N bytes were used, all that were lent, and P × (d − z) = m: d × m ÷ (d − z) bytes for each block
   pub used-is : used ≡ length parties * prefixRows p (length parties) * blocksOf p message
   pub used-all : used ≡ length prefixes
-  pub rows-are : prefixRows p (length parties) * (length parties - p .z) ≡ block p
+  pub rows-of-count : prefixRows p (length parties) * (length parties - p .z) ≡ block p
 
 -- what a call did, by its answer: a refused one left the output as it was
 abbrev pub Opens : Parameters → ℕ → List ℕ → List ℕ → List ℕ → Answer → List ℕ → Type 0

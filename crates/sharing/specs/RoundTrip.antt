@@ -23,7 +23,8 @@ handed p message parties output =
     joined (length parties)
     (λ a. prefixOf p message (length parties) (partOf p (blocksOf p message) (getD parties a 0) output))
 
--- of an accepted scheme (`round-trip` in proofs/RoundTrip.antt), what was split comes back: the opener, lent these prefixes, accepts, uses every byte of them and writes the message
+-- of an accepted scheme (`round-trip` in proofs/RoundTrip.antt), what was split comes back: the opener, lent these prefixes, accepts, uses every byte
+-- of them and writes the message
 abbrev pub RoundTrip : Parameters → Type 0
 RoundTrip p =
     (message keys : List ℕ) → Each Byte message → length message ≤ maxMessage → KeyString p (length message) keys

@@ -12,7 +12,8 @@ use Rattle.staircase.specs.Parameters.{Parameters, Party, block, rows, b
 use Rattle.staircase.specs.Coefficients.{countOf, coefficientAt}
 use Rattle.staircase.specs.Shares.{shares, KeyString}
 
--- of an accepted scheme (`output-byte` in proofs/Construction.antt): in the share of party s the byte of row j of block t is the sum of the row's coefficients times the powers of the party's point
+-- of an accepted scheme (`output-byte` in proofs/Construction.antt): in the share of party s the byte of row j of block t is the sum of the row's
+-- coefficients times the powers of the party's point
 abbrev pub Construction : Parameters → Type 0
 Construction p =
     (message keys : List ℕ) → Each Byte message → KeyString p (length message) keys

@@ -46,7 +46,8 @@ pub record Opened (p : Parameters) (message : ℕ) (parties prefixes : List ℕ)
       → (t j e : ℕ) → t < blocksOf p message → j < prefixRows p (length parties) → e < p .z
       → getD keys (keyPlace (rows p) (p .z) t j e) 0 ≡ getD keys′ (keyPlace (rows p) (p .z) t j e) 0
 
--- of an accepted scheme (`exactness` in proofs/WholeBlocks.antt): for every length, every list of as many distinct parties as a count, and every string of as many bytes as their prefixes have
+-- of an accepted scheme (`exactness` in proofs/WholeBlocks.antt): for every length, every list of as many distinct parties as a count, and every
+-- string of as many bytes as their prefixes have
 abbrev pub Exactness : Parameters → Type 0
 Exactness p =
     (message : ℕ) → message ≤ maxMessage
