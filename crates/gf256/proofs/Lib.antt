@@ -3,6 +3,6 @@ mod Ring
 pub mod Polynomials
 mod Inverses
 mod Powers
-mod Shifting
+pub mod Shifting
 pub mod Laws
 pub mod Examples

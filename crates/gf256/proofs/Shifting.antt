@@ -1,11 +1,15 @@
 -- A product by shifting, one turn: the lowest binary digit of the factor n goes into the sum s, and x is doubled.
 -- Assumes nothing.
 use mathlib.Core.Path.{_≡_, refl, sym, ap, ap₂, _∙_}
+use mathlib.Core.List.{List}
 use Prim.Native.Nat.{ℕ, _*_, _/_, _%_, _<_}
 use native.Mathlib.Nat as N
 use native.Mathlib.Omega.{arith}
+use lib.ListN.{getD}
+use Rattle.lists.proofs.Table.{getD-tabulate}
 use Rattle.gf256.specs.Byte.{_⊕_, _⊗_}
-use Rattle.gf256.proofs.Laws.{⊗-zero, ⊕-zero, ⊕-assoc, ⊗-by-digit}
+use Rattle.gf256.specs.Lanes.{lanes, scaled}
+use Rattle.gf256.proofs.Laws.{⊗-zero, ⊕-zero, zero-⊕, ⊕-assoc, ⊗-comm, ⊗-by-digit}
 
 -- t is the sum after the digit: with x where the digit is 1, else as it was
 pub odd : (s x n : ℕ) {t : ℕ} → n % 2 ≡ 1 → t ≡ s ⊕ x → t ≡ s ⊕ (x * (n % 2))
@@ -22,11 +26,19 @@ pub turn : (s x n : ℕ) {t r p : ℕ} → x < 256 → r ≡ x ⊗ 2 → t ≡ s
 turn s x n h er et e =
     ap₂ (λ u v. u ⊕ v ⊗ (n / 2)) et er ∙ ⊕-assoc s (x * (n % 2)) ((x ⊗ 2) ⊗ (n / 2)) ∙ ap (_⊕_ s) (sym (⊗-by-digit x n h)) ∙ e
 
--- at the last digit x need not be doubled
-pub last : (s x n : ℕ) {t p : ℕ} → x < 256 → n / 2 ≡ 0 → t ≡ s ⊕ (x * (n % 2)) → s ⊕ x ⊗ n ≡ p → t ⊕ x ⊗ (n / 2) ≡ p
-last s x n {t} h z et e =
-    ap (_⊕_ t) (ap (_⊗_ x) z ∙ ⊗-zero x ∙ sym (ap (_⊗_ (x ⊗ 2)) z ∙ ⊗-zero (x ⊗ 2))) ∙ turn s x n h refl et e
+-- where the digit is 0, x is only doubled
+pub doubling : (x n : ℕ) {r p : ℕ} → x < 256 → r ≡ x ⊗ 2 → n % 2 ≡ 0 → x ⊗ n ≡ p → r ⊗ (n / 2) ≡ p
+doubling x n {r} h er z e = sym (zero-⊕ (r ⊗ (n / 2))) ∙ turn 0 x n h er (even 0 x n (omega arith) refl) (zero-⊕ (x ⊗ n) ∙ e)
+
+-- where it is 1, the sum can start at x
+pub starting : (x n : ℕ) → x < 256 → n % 2 ≡ 1 → x ⊕ (x ⊗ 2) ⊗ (n / 2) ≡ x ⊗ n
+starting x n h q = turn 0 x n h refl (odd 0 x n q (sym (zero-⊕ x))) (zero-⊕ (x ⊗ n))
 
 -- at the end nothing is left
 pub done : (s x n : ℕ) {p : ℕ} → n ≡ 0 → s ⊕ x ⊗ n ≡ p → s ≡ p
 done s x n z e = sym (ap (_⊕_ s) (ap (_⊗_ x) z ∙ ⊗-zero x) ∙ ⊕-zero s) ∙ e
+
+-- 64 bytes, each doubled
+pub doubled : (p q : List ℕ) → q ≡ scaled 2 p → (i : ℕ) → i < lanes → getD q i 0 ≡ getD p i 0 ⊗ 2
+unfolding scaled
+doubled p q e i l = ap (λ x. getD x i 0) e ∙ getD-tabulate lanes _ i 0 l ∙ ⊗-comm 2 _

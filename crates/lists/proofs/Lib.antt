@@ -7,8 +7,8 @@ pub mod Parts
 pub mod Each
 pub mod Search
 pub mod Without
-pub mod WithoutFrom
 pub mod Fill
+pub mod Known
 pub mod Arrays
 pub mod Joined
 pub mod Piece

@@ -4,9 +4,9 @@ use mathlib.Core.Path.{_≡_, sym, ap, _∙_}
 use mathlib.Core.List.{List, [], _∷_, _++_}
 use mathlib.Core.Logic.{_⊎_, ⊎-elim}
 use Prim.Native.Nat.{ℕ, zero, suc, _+_, _-_, _≤_, _<_}
-use native.Mathlib.Nat.{zero-add, suc-add, add-sub-cancel-left}
+use native.Mathlib.Nat.{zero-add, suc-add, add-sub-cancel-left, le-refl, min-le-left}
 use native.Mathlib.Omega.{arith}
-use lib.ListN.{length, getD, take, drop, length-append, length-drop, List·getD-append}
+use lib.ListN.{length, getD, take, drop, length-append, length-take, length-drop, List·getD-append, List·getD-eq-default}
 use lib.Seq.{getD-append-add, getD-take, getD-drop, length-take-le, take-nil}
 use Rattle.lists.specs.Table.{tabulate}
 use Rattle.lists.proofs.Table.{tabulate-is}
@@ -18,6 +18,10 @@ back at m o y = take at o ++ (y ++ drop m (drop at o))
 -- the part that is lent from place `at` up to at + m
 pub part-length {ℓ} : {A : Type ℓ} (at m : ℕ) (o : List A) → at + m ≤ length o → length (take (at + m - at) (drop at o)) ≡ m
 part-length at m o room = rw add-sub-cancel-left (length-take-le m (drop at o) (rw length-drop (omega arith)))
+
+-- and the one up to the end
+pub rest-length {ℓ} : {A : Type ℓ} (at : ℕ) (o : List A) → length (take (length o - at) (drop at o)) ≡ length o - at
+rest-length at o = length-take-le (length o - at) (drop at o) (rw length-drop (le-refl _))
 
 module _ {ℓ} {A : Type ℓ} (at m : ℕ) (o y : List A) (room : at + m ≤ length o) where
   front : length (take at o) ≡ at
@@ -55,6 +59,10 @@ module _ {ℓ} {A : Type ℓ} (at m : ℕ) (o y : List A) (room : at + m ≤ len
 -- the first n entries of a list, as a table
 pub take-tabulate {ℓ} : {A : Type ℓ} (n : ℕ) (l : List A) (d : A) → n ≤ length l → tabulate n (λ i. getD l i d) ≡ take n l
 take-tabulate n l d h = sym (tabulate-is (take n l) n (λ i. getD l i d) d (length-take-le n l h) (λ i b. getD-take n l i d b))
+
+-- beyond the first n entries nothing stands
+pub take-beyond {ℓ} : {A : Type ℓ} (n : ℕ) (l : List A) (i : ℕ) (d : A) → n ≤ i → getD (take n l) i d ≡ d
+take-beyond n l i d h = List·getD-eq-default (take n l) d (rw length-take (omega (arith, min-le-left n (length l))))
 
 -- a part of a list that is taken in two orders
 module _ {ℓ} {A : Type ℓ} where

@@ -35,6 +35,11 @@ module _ {ℓ} {A : Type ℓ} where
   tabulate-is l n f d e h =
       ext-getD d l _ (e ∙ sym (length-tabulate n f)) (λ i b. h i (rw e at b) ∙ sym (getD-tabulate n f i d (rw e at b)))
 
+-- an entry of a table of rows
+pub getD-rows {ℓ} : {A : Type ℓ} (n m : ℕ) (f : ℕ → ℕ → A) (i e : ℕ) (d : A) → i < n → e < m
+    → getD (getD (tabulate n (λ k. tabulate m (f k))) i []) e d ≡ f i e
+getD-rows n m f i e d h l = ap (λ r. getD r e d) (getD-tabulate n (λ k. tabulate m (f k)) i [] h) ∙ getD-tabulate m (f i) e d l
+
 pub map-tabulate {ℓ ℓ′} : {A : Type ℓ} {B : Type ℓ′} (f : A → B) (n : ℕ) (g : ℕ → A) → map f (tabulate n g) ≡ tabulate n (λ i. f (g i))
 unfolding tabulate
 map-tabulate f zero g = refl

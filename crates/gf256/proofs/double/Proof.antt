@@ -11,7 +11,7 @@ use Rattle.gf256.proofs.double.Tie as tie
 
 -- what the code works out
 abbrev twice : ℕ → ℕ
-twice x = (x % 128 * 2) ⊕ (x / 128 * 0x1b)
+twice x = (x / 128 * 0x1b) ⊕ (x % 128 * 2)
 
 doubled : (x : ℕ) → x < 256 → twice x ≡ x ⊗ 2
 unfolding _⊗_ product reduce _⊕_ cut

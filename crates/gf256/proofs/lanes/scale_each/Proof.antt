@@ -1,85 +1,43 @@
--- `gf256::lanes::scale_each` meets its contract: a product by shifting at every place. The invariant, at each place: the sum so far, and the product
--- of what is left, is the product. The measure is what is left.
+-- `gf256::lanes::scale_each` meets its contract. The invariant, at each place: what is left, which is not 0, times the doubled byte is the product.
+-- The measure is what is left.
 -- Assumes nothing.
-use mathlib.Core.Path.{_≡_, refl, ap, _∙_}
-use mathlib.Core.List.{List}
-use mathlib.Core.Logic.{⊎-elim}
-use Prim.Native.Nat.{ℕ, _*_, _%_, _<_}
+use mathlib.Core.Path.{_≡_, refl, sym, ap, _∙_}
+use Prim.Native.Nat.{ℕ, _<_}
 use native.Mathlib.Omega.{arith}
 use borrow.Author.Needs.{needs}
-use lib.ListN.{length, getD, replicate, getD-replicate}
+use lib.ListN.{getD, length-replicate, getD-replicate}
 use Rattle.lists.proofs.Arrays.{array-byte}
-use Rattle.lists.proofs.Table.{length-tabulate, getD-tabulate, tabulate-is}
-use Rattle.gf256.specs.Byte.{_⊕_, _⊗_}
-use Rattle.gf256.specs.Lanes.{lanes, sums, scaled}
-use Rattle.gf256.proofs.Laws.{⊗-byte, ⊗-comm, zero-⊕}
-use Rattle.gf256.proofs.Shifting.{odd, even, turn, last, done}
+use Rattle.lists.proofs.Table.{tabulate-is, tabulate-same}
+use Rattle.gf256.specs.Byte.{_⊗_}
+use Rattle.gf256.specs.Lanes.{lanes, scaled}
+use Rattle.gf256.proofs.Laws.{⊗-byte, ⊗-comm, zero-⊗}
+use Rattle.gf256.proofs.Shifting.{doubling, doubled}
 use Rattle.gf256.proofs.lanes.scale_each.Statement.{statement}
 use Rattle.gf256.proofs.lanes.scale_each.Tie as tie
 
 abbrev Inv-loop : tie.InvT-loop
-Inv-loop by sum₀ p₀ left₀ sum p left =
-    (length sum ≡ lanes)
-    × ((i : ℕ) → i < lanes → (getD p i 0 < 256) × (getD sum i 0 ⊕ getD p i 0 ⊗ left ≡ getD p₀ i 0 ⊗ by))
+Inv-loop by p₀ left₀ p left =
+    (0 < left) × ((i : ℕ) → i < lanes → (getD p i 0 < 256) × (getD p i 0 ⊗ left ≡ getD p₀ i 0 ⊗ by))
 
 abbrev μ-loop : tie.MeasureT-loop
-μ-loop by sum₀ p₀ left₀ sum p left = left
-
--- t is the sum after the lowest digit of n
-record Added (s p t : List ℕ) (n : ℕ) : Type 0 where
-  long : length t ≡ lanes
-  at : (i : ℕ) → i < lanes → getD t i 0 ≡ getD s i 0 ⊕ (getD p i 0 * (n % 2))
-
-is-odd : (s p : List ℕ) {t u : List ℕ} {n : ℕ} → n % 2 ≡ 1 → u ≡ sums s p → t ≡ u → Added s p t n
-unfolding sums
-is-odd s p {t} {u} {n} q e f =
-    record {
-      long = ap length (f ∙ e) ∙ length-tabulate lanes _;
-      at = λ i l. odd (getD s i 0) (getD p i 0) n q (ap (λ x. getD x i 0) (f ∙ e) ∙ getD-tabulate lanes _ i 0 l);
-    }
-
-is-even : (s p : List ℕ) {t : List ℕ} {n : ℕ} → length s ≡ lanes → (n % 2 ≡ 1 → ⊥) → t ≡ s → Added s p t n
-is-even s p {t} {n} h q e =
-    record { long = ap length e ∙ h; at = λ i l. even (getD s i 0) (getD p i 0) n q (ap (λ x. getD x i 0) e) }
-
-added : (c : tie.Joined1 Inv-loop μ-loop) → let l = c .before .before .loop in Added (l .sum) (l .p) (c .if1 .sum) (l .left)
-added c =
-    let l = c .before .before .loop in
-    ⊎-elim (λ w. is-odd (l .sum) (l .p) (w .0 .taken) (w .1 .ensures) (w .2)) (λ w. is-even (l .sum) (l .p) (l .inv .0) (w .0 .left) (w .1)) (c .if1 .came)
-
--- the start: the sum is zero
-none : (by x i : ℕ) → i < lanes → getD (replicate lanes 0) i 0 ⊕ x ⊗ by ≡ x ⊗ by
-none by x i l = ap (λ u. u ⊕ x ⊗ by) (getD-replicate lanes i 0 0 l) ∙ zero-⊕ (x ⊗ by)
-
-doubled : (p q : List ℕ) → q ≡ scaled 2 p → (i : ℕ) → i < lanes → getD q i 0 ≡ getD p i 0 ⊗ 2
-unfolding scaled
-doubled p q e i l = ap (λ x. getD x i 0) e ∙ getD-tabulate lanes _ i 0 l ∙ ⊗-comm 2 _
+μ-loop by p₀ left₀ p left = left
 
 pub scale-each-spec : {M : Type 1} → statement M
 unfolding scaled
 scale-each-spec =
     tie.close
     (tie.spec Inv-loop μ-loop
-    (λ c. (refl, λ i l. (array-byte lanes (c .args .x) _ (c .good .0) i, none (c .args .by) (getD (c .args .x) i 0) i l)))
-    (λ c κs. search needs)
+    (λ c. tabulate-is _ lanes _ 0 (length-replicate {A = ℕ} lanes 0)
+    (λ i h. getD-replicate {A = ℕ} lanes i 0 0 h ∙ sym (ap (λ b. b ⊗ getD (c .before .args .x) i 0) (c .if1 .taken) ∙ zero-⊗ _)))
+    (λ c. (omega arith, λ i h. (array-byte lanes (c .before .args .x) _ (c .before .good .0) i, refl)))
     (λ c κs. search needs)
     (λ c. omega arith)
     (λ c.
-    let j = c .before .before in
-    let l = j .before .before .loop in
-    let q = doubled (l .p) (c .double-each .result) (c .double-each .ensures) in (
-      added j .long,
-      λ i h. (rw (q i h) (⊗-byte (getD (l .p) i 0) 2), turn _ _ (l .left) (l .inv .1 i h .0) (q i h) (added j .at i h) (l .inv .1 i h .1)),
-    ))
-    (λ c. omega arith)
+    let l = c .before .before .loop in
+    let twice = doubled (l .p) (c .double-each .result) (c .double-each .ensures) in
+    (omega arith, λ i h. (rw (twice i h) (⊗-byte (getD (l .p) i 0) 2), doubling _ (l .left) (l .inv .1 i h .0) (twice i h) (c .before .loop-test .taken) (l .inv .1 i h .1))))
+    (λ c κs. search needs)
     (λ c.
-    let j = c .before in
-    let l = j .before .before .loop in (
-      added j .long,
-      λ i h. (l .inv .1 i h .0, last _ _ (l .left) (l .inv .1 i h .0) (c .if2 .left) (added j .at i h) (l .inv .1 i h .1)),
-    ))
-    (λ c.
-    let l = c .before .loop in
-    let s = c .before .before in
-    tabulate-is (l .sum) lanes _ 0 (l .inv .0)
-    (λ i h. done _ _ _ (c .loop-test .left) (l .inv .1 i h .1) ∙ ⊗-comm (getD (s .args .x) i 0) (s .args .by))))
+    let l = c .before .before .loop in
+    let s = c .before .before .before .before in
+    c .scale-odd .ensures ∙ tabulate-same lanes _ _ (λ i h. ⊗-comm (l .left) (getD (l .p) i 0) ∙ l .inv .1 i h .1 ∙ ⊗-comm (getD (s .args .x) i 0) (s .args .by))))
