@@ -12,10 +12,8 @@ use Rattle.lists.specs.Each.{Each, Byte}
 use Rattle.lists.specs.Table.{tabulate}
 use Rattle.lists.proofs.Tests.{lt-or-le}
 use Rattle.lists.proofs.Table.{length-tabulate, getD-tabulate}
-use Rattle.gf256.specs.Byte.{_⊕_, _⊗_}
-use Rattle.gf256.proofs.Laws.{⊕-zero, zero-⊕, ⊕-back, ⊗-zero}
-use Rattle.interpolation.specs.Polynomial.{next, eval, plus, above}
-use Rattle.interpolation.proofs.Polynomial.{eval-plus}
+use Rattle.gf256.proofs.Laws.{⊕-zero}
+use Rattle.interpolation.specs.Polynomial.{plus, above}
 
 pub above-length : (d : ℕ) (cs : List ℕ) → length (above d cs) ≡ length cs
 unfolding above
@@ -61,23 +59,9 @@ above-same d n f g same =
     let b : e < n = rw length-tabulate at h in
     above-high d (tabulate n f) e k ∙ getD-tabulate n f e 0 b ∙ same e k b ∙ sym (getD-tabulate n g e 0 b))
 
--- there is none of a polynomial with at most d coefficients
-pub above-none : (x d : ℕ) (cs : List ℕ) → length cs ≤ d → eval x (above d cs) ≡ 0
-unfolding above eval next
-above-none x zero [] h = refl
-above-none x zero (c ∷ cs) h = absurd (not-suc-le-zero h)
-above-none x (suc d) [] h = refl
-above-none x (suc d) (c ∷ cs) h = zero-⊕ _ ∙ ap (_⊗_ x) (above-none x d cs (le-of-suc-le-suc h)) ∙ ⊗-zero x
-
 -- the first d coefficients and the upper part make up the polynomial
 pub plus-above : (d : ℕ) (cs : List ℕ) → plus (take d cs) (above d cs) ≡ cs
 unfolding above plus
 plus-above zero cs = refl
 plus-above (suc d) [] = refl
 plus-above (suc d) (c ∷ cs) = ap₂ _∷_ (⊕-zero c) (plus-above d cs)
-
--- so a value without that of the upper part is that of the first d coefficients
-pub lower-value : (x d : ℕ) (cs : List ℕ) → eval x cs ⊕ eval x (above d cs) ≡ eval x (take d cs)
-lower-value x d cs =
-    ap (λ (v : ℕ). v ⊕ eval x (above d cs)) (ap (eval x) (sym (plus-above d cs)) ∙ eval-plus x (take d cs) (above d cs))
-    ∙ ⊕-back (eval x (take d cs)) (eval x (above d cs))

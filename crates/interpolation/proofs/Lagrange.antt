@@ -18,7 +18,7 @@ use Rattle.lists.proofs.Each.{each-getD, each-of, each-map, each-replicate, eac
 use Rattle.lists.proofs.Table.{length-tabulate, getD-tabulate, tabulate-is}
 use Rattle.lists.proofs.Without.{length-without, each-without, without-other, without-distinct}
 use Rattle.gf256.specs.Byte.{_⊕_, _⊗_, inverse}
-use Rattle.gf256.proofs.Laws.{zero-⊕, ⊕-zero, ⊗-zero, ⊗-one, ⊗-comm, ⊗-inverse}
+use Rattle.gf256.proofs.Laws.{zero-⊕, ⊕-zero, interchange, ⊗-⊕, ⊗-zero, ⊗-one, ⊗-comm, ⊗-inverse}
 use Rattle.interpolation.specs.Polynomial.{eval, values, plus, scale, vanishing, sumTo}
 use Rattle.interpolation.specs.Interpolation.{unit, basis}
 use Rattle.interpolation.proofs.Polynomial.{eval-plus, eval-scale, eval-zeros, eval-byte, plus-at, plus-byte, plus-length, scale-at, scale-byte, scale-length, vanishing-byte, vanishing-length, vanishing-zero, vanishing-nonzero}
@@ -112,6 +112,14 @@ pub sumTo-zero : (n : ℕ) (f : ℕ → ℕ) → ((i : ℕ) → i < n → f i �
 unfolding sumTo
 sumTo-zero zero f h = refl
 sumTo-zero (suc n) f h = ap₂ _⊕_ (sumTo-zero n f (λ i b. h i (le-step b))) (h n (le-refl (suc n))) ∙ ⊕-zero 0
+
+-- k times a sum, and another sum, term by term
+pub sumTo-linear : (k n : ℕ) (f g : ℕ → ℕ) → sumTo n (λ i. k ⊗ f i ⊕ g i) ≡ k ⊗ sumTo n f ⊕ sumTo n g
+unfolding sumTo
+sumTo-linear k zero f g = sym (⊕-zero (k ⊗ 0) ∙ ⊗-zero k)
+sumTo-linear k (suc n) f g =
+    ap (λ (s : ℕ). s ⊕ (k ⊗ f n ⊕ g n)) (sumTo-linear k n f g) ∙ interchange (k ⊗ sumTo n f) (sumTo n g) (k ⊗ f n) (g n)
+    ∙ ap (λ (s : ℕ). s ⊕ (sumTo n g ⊕ g n)) (sym (⊗-⊕ k (sumTo n f) (f n)))
 
 -- where all terms but one are 0, the sum is that one
 pub sumTo-one : (n j : ℕ) (f : ℕ → ℕ) → j < n → ((i : ℕ) → i < n → i ≢ j → f i ≡ 0) → sumTo n f ≡ f j

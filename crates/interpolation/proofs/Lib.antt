@@ -4,8 +4,11 @@ mod Unique
 mod Through
 mod Lagrange
 mod Weights
+mod Remainders
+mod OpeningRows
 mod Table
 mod Row
 mod Rows
 pub mod RowValues
 pub mod Laws
+pub mod Examples

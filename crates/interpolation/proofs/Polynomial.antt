@@ -1,18 +1,21 @@
 -- Laws of polynomials: values, lengths, bytes and single coefficients of sums, multiples and products. Each is an induction over the coefficients.
 -- Assumes nothing.
-use mathlib.Core.Path.{_≡_, refl, sym, ap, _∙_}
+use mathlib.Core.Path.{_≡_, refl, sym, ap, ap₂, _∙_}
 use mathlib.Core.Logic.{_≢_, _⊎_, inl, inr}
 use mathlib.Core.List.{List, [], _∷_, _++_}
-use Prim.Native.Nat.{ℕ, zero, suc, _-_, _≤_, _<_}
+use Prim.Native.Nat.{ℕ, zero, suc, _≤_, _<_}
 use native.Mathlib.Nat.{le-of-suc-le-suc, not-suc-le-zero, suc-inj}
 use native.Mathlib.Omega.{arith}
 use lib.Dec.{lit<}
-use lib.ListN.{length, getD, replicate}
+use lib.ListN.{length, getD, take, replicate, List·getD-eq-default}
+use lib.Seq.{length-take-le, take-suc, take-all}
 use Rattle.lists.specs.Each.{Each, Byte}
 use Rattle.lists.specs.Table.{tabulate}
+use Rattle.lists.specs.Without.{without}
+use Rattle.lists.proofs.Each.{each-getD}
 use Rattle.lists.proofs.Table.{length-tabulate}
 use Rattle.gf256.specs.Byte.{_⊕_, _⊗_, power}
-use Rattle.gf256.proofs.Laws.{⊕-assoc, ⊕-left-comm, zero-⊕, ⊕-zero, ⊕-self, ⊕-equal, ⊕-byte, ⊗-assoc, ⊗-comm, ⊗-left-comm, ⊗-⊕, ⊕-⊗, ⊗-zero, zero-⊗, one-⊗, ⊗-byte, no-zero-divisors}
+use Rattle.gf256.proofs.Laws.{⊕-assoc, ⊕-comm, ⊕-left-comm, zero-⊕, ⊕-zero, ⊕-self, ⊕-equal, ⊕-byte, ⊗-assoc, ⊗-comm, ⊗-left-comm, ⊗-⊕, ⊕-⊗, ⊗-zero, zero-⊗, one-⊗, ⊗-byte, no-zero-divisors}
 use Rattle.interpolation.specs.Polynomial.{next, eval, plus, scale, linear, vanishing, sumTo}
 
 -- ---- values
@@ -64,6 +67,19 @@ pub eval-byte : (x : ℕ) (cs : List ℕ) → Each Byte cs → Byte (eval x cs)
 unfolding next eval
 eval-byte x [] h = lit< tt
 eval-byte x (c ∷ cs) h = ⊕-byte c (x ⊗ eval x cs) (h .0) (⊗-byte x (eval x cs))
+
+-- one coefficient more counts times its power of x
+pub eval-take : (x : ℕ) (cs : List ℕ) (k : ℕ) → Each Byte cs → k < length cs → eval x (take (suc k) cs) ≡ eval x (take k cs) ⊕ power x k ⊗ getD cs k 0
+unfolding eval next
+eval-take x cs k b h =
+    let one : eval x (getD cs k 0 ∷ []) ≡ getD cs k 0 = ap (_⊕_ (getD cs k 0)) (⊗-zero x) ∙ ⊕-zero (getD cs k 0) in
+    ap (eval x) (take-suc cs k 0 h)
+    ∙ eval-append x (take k cs) (getD cs k 0 ∷ []) (rw one (each-getD Byte cs k 0 h b))
+    ∙ rw (one, length-take-le k cs (omega arith))
+
+-- a polynomial's highest coefficient, where there are d more
+pub eval-highest : (x : ℕ) (cs : List ℕ) (d : ℕ) → Each Byte cs → length cs ≡ suc d → eval x cs ≡ eval x (take d cs) ⊕ power x d ⊗ getD cs d 0
+eval-highest x cs d b n = ap (eval x) (sym (take-all (suc d) cs (omega arith))) ∙ eval-take x cs d b (omega arith)
 
 -- ---- sums
 
@@ -134,6 +150,17 @@ unfolding linear
 linear-length p low [] = refl
 linear-length p low (c ∷ cs) = ap suc (linear-length p c cs)
 
+-- two factors change places, where the numbers added make up for it
+linear-swap : (p q a b low : ℕ) (cs : List ℕ) → a ⊕ p ⊗ low ≡ b ⊕ q ⊗ low → linear p a (linear q low cs) ≡ linear q b (linear p low cs)
+unfolding linear
+linear-swap p q a b low [] e = ap (λ (c : ℕ). c ∷ low ∷ []) e
+linear-swap p q a b low (c ∷ cs) e =
+    ap₂ _∷_
+    (ap (_⊕_ a) (⊗-⊕ p low (q ⊗ c)) ∙ sym (⊕-assoc a (p ⊗ low) (p ⊗ (q ⊗ c)))
+    ∙ ap₂ _⊕_ e (⊗-left-comm p q c)
+    ∙ ⊕-assoc b (q ⊗ low) (q ⊗ (p ⊗ c)) ∙ ap (_⊕_ b) (sym (⊗-⊕ q low (p ⊗ c))))
+    (linear-swap p q (low ⊕ q ⊗ c) (low ⊕ p ⊗ c) c cs (⊕-assoc low (q ⊗ c) (p ⊗ c) ∙ ap (_⊕_ low) (⊕-comm (q ⊗ c) (p ⊗ c)) ∙ sym (⊕-assoc low (p ⊗ c) (q ⊗ c))))
+
 -- ---- the product of x + p over the points p
 
 pub vanishing-byte : (ps : List ℕ) → Each Byte (vanishing ps)
@@ -146,9 +173,27 @@ unfolding vanishing
 vanishing-length [] = refl
 vanishing-length (p ∷ ps) = linear-length p 0 (vanishing ps) ∙ ap suc (vanishing-length ps)
 
+-- the product's highest coefficient is 1
+pub vanishing-highest : (ps : List ℕ) → getD (vanishing ps) (length ps) 0 ≡ 1
+unfolding vanishing
+vanishing-highest [] = refl
+vanishing-highest (p ∷ ps) =
+    linear-next p 0 (vanishing ps) (length ps)
+    ∙ ap₂ (λ (a b : ℕ). a ⊕ p ⊗ b) (vanishing-highest ps) (List·getD-eq-default (vanishing ps) 0 (omega (arith, vanishing-length ps)))
+    ∙ ap (_⊕_ 1) (⊗-zero p) ∙ ⊕-zero 1
+
 pub vanishing-next : (x p : ℕ) (ps : List ℕ) → eval x (vanishing (p ∷ ps)) ≡ (x ⊕ p) ⊗ eval x (vanishing ps)
 unfolding vanishing
 vanishing-next x p ps = eval-linear x p 0 (vanishing ps) ∙ zero-⊕ _
+
+-- it is x + p for the point at any place times the product over the others
+pub vanishing-without : (ps : List ℕ) (i : ℕ) → i < length ps → vanishing ps ≡ linear (getD ps i 0) 0 (vanishing (without i ps))
+unfolding vanishing without
+vanishing-without [] i h = absurd (not-suc-le-zero h)
+vanishing-without (p ∷ ps) zero h = refl
+vanishing-without (p ∷ ps) (suc i) h =
+    ap (linear p 0) (vanishing-without ps i (le-of-suc-le-suc h))
+    ∙ linear-swap p (getD ps i 0) 0 0 0 (vanishing (without i ps)) (ap (_⊕_ 0) (⊗-zero p ∙ sym (⊗-zero (getD ps i 0))))
 
 -- it is 0 at each of its points
 pub vanishing-zero : (ps : List ℕ) → Each (λ x. eval x (vanishing ps) ≡ 0) ps

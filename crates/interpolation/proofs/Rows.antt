@@ -4,13 +4,12 @@ use mathlib.Core.Path.{_≡_, refl, sym, _∙_}
 use mathlib.Core.Bool.{false}
 use mathlib.Core.List.{List, []}
 use Prim.Native.Nat.{ℕ, _+_, _≤_, _<_}
-use native.Mathlib.Decide.{ℕ-discrete}
 use native.Mathlib.Omega.{arith}
-use lib.ListN.{length, getD, replicate, set, length-set, getD-replicate}
-use lib.Seq.{getD-set-same, getD-set-other}
+use lib.ListN.{length, getD, replicate, set, getD-replicate}
 use Rattle.lists.specs.Each.{distinct}
 use Rattle.lists.specs.Table.{tabulate}
 use Rattle.lists.proofs.Each.{replicate-at}
+use Rattle.lists.proofs.Known.{Written, written-more, written-all}
 use Rattle.lists.proofs.Table.{tabulate-is}
 use Rattle.interpolation.specs.Interpolation.{side, weight, basisTable}
 use Rattle.interpolation.proofs.Weights.{weight-beyond, weight-too-many, weight-not-distinct}
@@ -24,8 +23,7 @@ zero-rows = replicate side zeros
 
 pub record Rows (ps : List ℕ) (i : ℕ) (table : List (List ℕ)) : Type 0 where
   pub within : i ≤ length ps
-  pub long : length table ≡ side
-  pub is : (k : ℕ) → k < side → (i ≤ k → length ps ≤ k) → getD table k [] ≡ tabulate side (weight ps k)
+  pub rows : Written [] (λ k. tabulate side (weight ps k)) side (length ps) i table
 
 module _ (ps : List ℕ) where
   -- where every weight is 0 the row is zeros, and so the table
@@ -46,17 +44,16 @@ module _ (ps : List ℕ) where
 
   pub rows-none : Rows ps 0 zero-rows
   unfolding zero-rows
-  rows-none = record { within = omega arith; long = refl; is = λ k l b. row-zero k l (λ e. weight-beyond ps k e (b (omega arith))) }
+  rows-none =
+      record {
+        within = omega arith;
+        rows = record { long = refl; is = λ k l b. row-zero k l (λ e. weight-beyond ps k e (b (omega arith))) };
+      }
 
   pub rows-more : (i : ℕ) (table : List (List ℕ)) (row : List ℕ) → i < length ps → length ps ≤ side → row ≡ tabulate side (weight ps i)
       → Rows ps i table → Rows ps (i + 1) (set table i row)
-  rows-more i table row h m e r =
-      record { within = omega arith; long = length-set table i row ∙ r .long; is = λ k l b. at k l b (ℕ-discrete k i) }
-    where
-      at : (k : ℕ) → k < side → (i + 1 ≤ k → length ps ≤ k) → Dec (k ≡ i) → getD (set table i row) k [] ≡ tabulate side (weight ps k)
-      at k l b (yes q) = rw q (getD-set-same table i row [] (omega (arith, r .long)) ∙ e)
-      at k l b (no n) = getD-set-other table i k row [] n ∙ r .is k l (λ j. b (omega arith))
+  rows-more i table row h m e r = record { within = omega arith; rows = written-more (r .rows) h m e }
 
   pub rows-all : (i : ℕ) (table : List (List ℕ)) → length ps ≤ i → Rows ps i table → table ≡ basisTable ps
   unfolding basisTable
-  rows-all i table h r = tabulate-is table side (λ k. tabulate side (weight ps k)) [] (r .long) (λ k l. r .is k l (λ j. omega arith))
+  rows-all i table h r = written-all (r .rows) h

@@ -1,14 +1,13 @@
 -- The entries of the table of weights: `weight` by cases, and the table's entries.
 -- Assumes nothing.
-use mathlib.Core.Path.{_≡_, ap, _∙_}
+use mathlib.Core.Path.{_≡_}
 use mathlib.Core.Bool.{true, false, and-false}
 use mathlib.Core.List.{List, []}
 use Prim.Native.Nat.{ℕ, _≤_, _<_}
 use lib.ListN.{length, getD}
 use borrow.Author.Tests.{lt-ltb, le-ltb, le-leb, lt-leb}
 use Rattle.lists.specs.Each.{distinct}
-use Rattle.lists.specs.Table.{tabulate}
-use Rattle.lists.proofs.Table.{getD-tabulate}
+use Rattle.lists.proofs.Table.{getD-rows}
 use Rattle.interpolation.specs.Interpolation.{side, basis, weight, basisTable}
 
 module _ (ps : List ℕ) (i e : ℕ) where
@@ -30,5 +29,4 @@ module _ (ps : List ℕ) (i e : ℕ) where
 
   pub table-at : i < side → e < side → getD (getD (basisTable ps) i []) e 0 ≡ weight ps i e
   unfolding basisTable
-  table-at h l =
-      ap (λ (r : List ℕ). getD r e 0) (getD-tabulate side (λ k. tabulate side (weight ps k)) i [] h) ∙ getD-tabulate side (weight ps i) e 0 l
+  table-at h l = getD-rows side side (weight ps) i e 0 h l

@@ -1,3 +1,4 @@
 pub mod Polynomial
 pub mod Interpolation
+pub mod Opening
 pub mod RowValue

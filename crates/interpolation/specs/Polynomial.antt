@@ -2,6 +2,8 @@
 -- Assumes nothing.
 use mathlib.Core.List.{List, [], _∷_, map}
 use Prim.Native.Nat.{ℕ, zero, suc}
+use lib.ListN.{getD}
+use Rattle.lists.specs.Table.{tabulate}
 use Rattle.gf256.specs.Byte.{_⊕_, _⊗_}
 
 -- one coefficient more, from the highest down: what the value at x becomes
@@ -43,6 +45,10 @@ linear p low (c ∷ cs) = (low ⊕ p ⊗ c) ∷ linear p c cs
 unfoldable pub vanishing : List ℕ → List ℕ
 vanishing [] = 1 ∷ []
 vanishing (p ∷ ps) = linear p 0 (vanishing ps)
+
+-- the n lowest coefficients, zeros where there are no more
+abbrev pub lowest : ℕ → List ℕ → List ℕ
+lowest n cs = tabulate n (λ e. getD cs e 0)
 
 -- f 0 + f 1 + .. + f (n - 1)
 unfoldable pub sumTo : ℕ → (ℕ → ℕ) → ℕ

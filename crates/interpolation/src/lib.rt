@@ -1,8 +1,8 @@
-// Interpolation over bytes: the running value of a row, and the Lagrange basis.
+// Interpolation over bytes: the running value of a row, the Lagrange basis, and the weights of an opening.
 ghost use mathlib.Core.Path.{_≡_};
 ghost use mathlib.Core.Bool.{true};
-ghost use Prim.Native.Nat.{_+_, _<_, _≤_};
-ghost use lib.ListN.{length, getD, take, drop};
+ghost use Prim.Native.Nat.{ℕ, _+_, _<_, _≤_};
+ghost use lib.ListN.{length, getD, drop};
 ghost use Rattle.lists.specs.Each as each;
 ghost use Rattle.lists.specs.Table.{tabulate};
 ghost use Rattle.gf256.specs.Lanes.{lanes};
@@ -10,6 +10,10 @@ ghost use Rattle.interpolation.specs.Polynomial as polynomial;
 ghost use Rattle.interpolation.specs.Interpolation.{side, weight, basisTable};
 ghost use Rattle.interpolation.specs.RowValue.{nextEach};
 use gf256::lanes::LANES;
+
+mod opening;
+
+pub use opening::opening_weights;
 
 // Document 01's running row value, of one row in 64 consecutive blocks: its values at a point, over
 // the coefficients taken so far.
@@ -26,6 +30,16 @@ impl RowValue {
         RowValue {
             point,
             values: [0u8; LANES],
+        }
+    }
+
+    // The row's highest coefficient taken: what `next` makes of `new`.
+    pub fn starting(point: u8, coefficient: [u8; LANES]) -> RowValue
+        ensures { λ v. ⌜ (v .point ≡ point) × (v .values ≡ nextEach point (tabulate lanes (λ k. 0)) coefficient) ⌝ }
+    {
+        RowValue {
+            point,
+            values: coefficient,
         }
     }
 
@@ -50,71 +64,99 @@ pub const SIDE: usize = 16;
 pub fn basis(points: &[u8]) -> [[u8; SIDE]; SIDE]
     ensures { λ w. ⌜ w ≡ basisTable (now (points .entry)) ⌝ }
 {
-    let mut table = [[0u8; SIDE]; SIDE];
     if SIDE < points.len() {
-        return table;
+        return [[0u8; SIDE]; SIDE];
     }
+    basis_by(points, vanishing(points))
+}
+
+// The same where they are at most 16 and the product over them is at hand.
+pub(crate) fn basis_by(points: &[u8], product: [u8; SIDE + 1]) -> [[u8; SIDE]; SIDE]
+    requires { ⌜ (length (now points) ≤ side) × (product ≡ polynomial.lowest (side + 1) (polynomial.vanishing (now points))) ⌝ }
+    ensures { λ w. ⌜ w ≡ basisTable (now (points .entry)) ⌝ }
+{
+    let mut table = [[0u8; SIDE]; SIDE];
     if !distinct(points) {
         return table;
     }
     let mut i = 0;
     while i < points.len() {
-        table[i] = basis_row(points, i);
+        table[i] = basis_row(product, points, i);
         i += 1;
     }
     table
 }
 
-// Row i: the product of x + p over the other points p, divided by its value at point i, which is the
-// product of the differences of point i and the others. The product by shifting, since the one by
-// tables copies them at each use.
-fn basis_row(points: &[u8], i: usize) -> [u8; SIDE]
-    requires { ⌜ (i < length (now points)) × (length (now points) ≤ side) × (each.distinct (now points) ≡ true) ⌝ }
-    ensures { λ row. ⌜ row ≡ tabulate side (weight (now (points .entry)) i) ⌝ }
+// The product of x + p over all points p: one coefficient more than points, and zeros above.
+pub(crate) fn vanishing(points: &[u8]) -> [u8; SIDE + 1]
+    requires { ⌜ length (now points) ≤ side ⌝ }
+    ensures { λ r. ⌜ r ≡ polynomial.lowest (side + 1) (polynomial.vanishing (now (points .entry))) ⌝ }
 {
-    let mut product = [0u8; SIDE];
+    let mut product = [0u8; SIDE + 1];
     product[0] = 1;
-    let mut value: u8 = 1;
     let mut j = points.len();
     while 0 < j {
         j -= 1;
-        if j != i {
-            let longer = times_linear(product, points[j]);
-            product = longer;
-            value = gf256::mul_by_shifting(points[i] ^ points[j], value);
-        }
+        let longer = times_linear(product, points.len() - j, points[j]);
+        product = longer;
     }
-    let factor = gf256::inverse(value);
-    scale(product, factor)
+    product
 }
 
-// A polynomial times x + point, cut to 16 coefficients. With at most 16 points nothing is cut off that
-// is not zero.
-fn times_linear(poly: [u8; SIDE], point: u8) -> [u8; SIDE]
-    ensures { λ r. ⌜ r ≡ take side (polynomial.linear point 0 poly) ⌝ }
+// A polynomial times x + point, which makes it one of this degree. The coefficients above are zeros and
+// stay so: for speed they are passed over. The products of bytes, here and in the rows, are by shifting,
+// since those by tables copy the tables at each use, and have the point as the second factor: they go
+// through its bits, and points are small.
+fn times_linear(poly: [u8; SIDE + 1], degree: usize, point: u8) -> [u8; SIDE + 1]
+    requires { ⌜ (degree ≤ side) × ((e : ℕ) → degree ≤ e → getD poly e 0 ≡ 0) ⌝ }
+    ensures { λ r. ⌜ r ≡ polynomial.lowest (side + 1) (polynomial.linear point 0 poly) ⌝ }
 {
-    let mut longer = [0u8; SIDE];
+    let mut longer = [0u8; SIDE + 1];
     let mut lower: u8 = 0;
     let mut e = 0;
-    while e < SIDE {
-        longer[e] = lower ^ gf256::mul_by_shifting(point, poly[e]);
+    while e <= degree {
+        longer[e] = lower ^ gf256::mul_by_shifting(poly[e], point);
         lower = poly[e];
         e += 1;
     }
     longer
 }
 
-// A polynomial times a number.
-fn scale(poly: [u8; SIDE], by: u8) -> [u8; SIDE]
-    ensures { λ r. ⌜ r ≡ polynomial.scale by poly ⌝ }
+// Row i: the product over all points divided by x + point i, which leaves the product over the others,
+// and that divided by its value at point i. The division goes from the highest coefficient down, and the
+// value is found on the way. For speed the quotient stands at the front of 64 bytes, which are scaled
+// side by side.
+fn basis_row(product: [u8; SIDE + 1], points: &[u8], i: usize) -> [u8; SIDE]
+    requires { ⌜ (i < length (now points)) × (length (now points) ≤ side) × (each.distinct (now points) ≡ true) ⌝ }
+    requires { ⌜ product ≡ polynomial.lowest (side + 1) (polynomial.vanishing (now points)) ⌝ }
+    ensures { λ row. ⌜ row ≡ tabulate side (weight (now (points .entry)) i) ⌝ }
 {
-    let mut scaled = [0u8; SIDE];
+    let point = points[i];
+    let mut quotient = [0u8; LANES];
+    let mut above: u8 = 0;
+    let mut value: u8 = 0;
+    let mut e = points.len();
+    while 0 < e {
+        above = product[e] ^ gf256::mul_by_shifting(above, point);
+        e -= 1;
+        quotient[e] = above;
+        value = above ^ gf256::mul_by_shifting(value, point);
+    }
+    let factor = gf256::inverse(value);
+    lowest(gf256::lanes::scale_each(quotient, factor))
+}
+
+// The first 16 of 64 bytes: a row of coefficients.
+fn lowest(bytes: [u8; LANES]) -> [u8; SIDE]
+    ensures { λ r. ⌜ r ≡ polynomial.lowest side bytes ⌝ }
+{
+    let mut row = [0u8; SIDE];
     let mut e = 0;
     while e < SIDE {
-        scaled[e] = gf256::mul_by_shifting(by, poly[e]);
+        row[e] = bytes[e];
         e += 1;
     }
-    scaled
+    row
 }
 
 // Whether no point stands twice.

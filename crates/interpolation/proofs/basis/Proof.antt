@@ -1,39 +1,15 @@
--- `interpolation::basis` meets its contract. The invariant is `Rows`: the rows below i are right, and those beyond the points, which stay zero.
--- The measure is what is left.
+-- `interpolation::basis` meets its contract.
 -- Assumes nothing.
-use mathlib.Core.Path.{sym, _∙_}
-use Prim.Native.Nat.{_-_}
-use native.Mathlib.Omega.{arith}
-use lib.ListN.{length}
-use borrow.Author.Needs.{needs}
-use borrow.Author.Tests.{not-true, not-false}
-use Rattle.interpolation.proofs.Rows.{zeros, zero-rows, Rows, too-many, not-distinct, rows-none, rows-more, rows-all}
+use Rattle.interpolation.proofs.Rows.{zeros, zero-rows, too-many}
 use Rattle.interpolation.proofs.basis.Statement.{statement}
 use Rattle.interpolation.proofs.basis.Tie as tie
-
-abbrev Inv-loop : tie.InvT-loop
-Inv-loop points table₀ i₀ table i = Rows points i table
-
-abbrev μ-loop : tie.MeasureT-loop
-μ-loop points table₀ i₀ table i = length points - i
 
 pub basis-spec : {M : Type 1} → statement M
 unfolding zeros zero-rows
 basis-spec =
     tie.close
-    (tie.spec Inv-loop μ-loop
+    (tie.spec
     (λ c. too-many _ (c .if1 .taken))
-    (λ c κs. search needs)
-    (λ c. not-distinct _ (sym (c .before .distinct .ensures) ∙ not-true _ (c .if2 .taken)))
-    (λ c. rows-none _)
-    (λ c κs.
-    let s = c .before .before in
-    (omega arith, s .before .before .if1 .left, sym (s .before .distinct .ensures) ∙ not-false _ (s .if2 .left)))
-    (λ c. search needs)
-    (λ c. search needs)
-    (λ c. search needs)
-    (λ c. search needs)
-    (λ c.
-    let l = c .before .before in
-    rows-more _ _ _ _ (c .before .loop-test .taken) (l .before .before .before .if1 .left) (c .basis-row .ensures) (l .loop .inv))
-    (λ c. rows-all _ _ _ (c .loop-test .left) (c .before .loop .inv)))
+    (λ c κs. c .if1 .left)
+    (λ c κs. (c .before .if1 .left, c .vanishing .ensures))
+    (λ c. c .basis-by .ensures))
