@@ -1,4 +1,4 @@
 mod Gathered
-mod FirstColumns
+mod FlatColumns
 mod Batches
 pub mod Laws

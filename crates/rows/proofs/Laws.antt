@@ -7,9 +7,7 @@ use mathlib.Core.Logic.{⊎-elim}
 use Prim.Native.Nat.{ℕ, zero, suc, _+_, _-_, _*_, _/_, _%_, _≤_, _<_}
 use native.Mathlib.Nat.{eq-zero-or-pos}
 use native.Mathlib.Omega.{arith}
-use lib.ListN.{getD}
-use Rattle.lists.specs.Table.{tabulate}
-use Rattle.lists.proofs.Table.{length-tabulate, getD-tabulate}
+use lib.ListN.{length, getD}
 use Rattle.interpolation.specs.Interpolation.{side}
 use Rattle.scheme.specs.declared.Scheme.{Scheme}
 use Rattle.scheme.specs.Check.{rowsOfCount}
@@ -17,10 +15,11 @@ use Rattle.scheme.specs.Facts.{SchemeIs}
 use Rattle.staircase.specs.Coefficients.{groupOf, countOf, origin}
 use Rattle.staircase.proofs.Groups.{group-below}
 use Rattle.staircase.proofs.Origin.{origin-first, origin-later, origin-falls, origin-below}
-use Rattle.rows.specs.Origins.{found, rowOrigins}
+use Rattle.rows.specs.Origins.{found, originsOver}
 use Rattle.rows.specs.Sources.{RowOrigins}
 use Rattle.rows.proofs.Scheme.{facts-of, row-count-high}
 use Rattle.rows.proofs.Steps.{first, later}
+use Rattle.rows.proofs.Over.{over-long, over-at}
 
 module _ (s : Scheme) (ds : List ℕ) (S : SchemeIs s (s .n) (s .r) (s .z) ds) where
   origin-in : (bound row e : ℕ) → row < bound → row < s .rows → s .z ≤ e → e < countOf (s .block) (s .z) ds row
@@ -55,16 +54,16 @@ module _ (s : Scheme) (ds : List ℕ) (S : SchemeIs s (s .n) (s .r) (s .z) ds) w
         → found (s .block) (s .z) ds row e ≡ origin (s .block) (s .z) ds row e
     found-origin e low high = origin-in (suc row) row e (omega arith) h low high
 
-    -- so what `row_origins` answers are the origins of the row's coefficients
-    pub row-origins : RowOrigins (s .block) (s .z) ds row (countOf (s .block) (s .z) ds row) (rowOrigins (s .block) (s .z) ds row)
-    unfolding rowOrigins
-    row-origins =
+    -- so what `row_origins` writes over 16 places are the origins of the row's coefficients
+    pub row-origins : (places : List ℕ) → length places ≡ side
+        → RowOrigins (s .block) (s .z) ds row (countOf (s .block) (s .z) ds row) (originsOver (s .block) (s .z) ds row places)
+    row-origins places long =
         let is : (e : ℕ) → s .z ≤ e → e < countOf (s .block) (s .z) ds row
-        → getD (tabulate side (found (s .block) (s .z) ds row)) e 0 ≡ origin (s .block) (s .z) ds row e
+        → getD (originsOver (s .block) (s .z) ds row places) e 0 ≡ origin (s .block) (s .z) ds row e
         = λ e low high.
-        getD-tabulate side (found (s .block) (s .z) ds row) e 0 (omega (arith, row-count-high s ds S row h)) ∙ found-origin e low high in
+        over-at (s .block) (s .z) ds row places e low high (omega (arith, row-count-high s ds S row h)) ∙ found-origin e low high in
         record {
-          long = length-tabulate side (found (s .block) (s .z) ds row);
+          long = over-long (s .block) (s .z) ds row places ∙ long;
           is = is;
           below = λ e low high. rw (is e low high) (origin-below (s .n) (s .r) (s .z) ds (s .block) (s .rows) (facts-of s ds S) row e h low high);
         }

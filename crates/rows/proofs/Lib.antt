@@ -1,6 +1,6 @@
 pub mod Scheme
 mod Groups
 mod Steps
-mod Collected
+mod Over
 pub mod Laws
 pub mod Points

@@ -1,19 +1,18 @@
 -- The points of parties in an array: how a loop fills it, and what the array holds.
 -- Assumes nothing.
-use mathlib.Core.Path.{_≡_, sym, ap, _∙_}
+use mathlib.Core.Path.{_≡_, refl, sym, ap, _∙_}
 use mathlib.Core.List.{List, map}
-use Prim.Native.Nat.{ℕ, _+_, _≤_, _<_, min}
-use native.Mathlib.Nat.{not-suc-le-zero}
+use Prim.Native.Nat.{ℕ, _+_, _≤_, _<_, min, zero-le}
 use native.Mathlib.Omega.{arith}
 use lib.ListN.{length, getD, take, set, replicate, length-map}
 use lib.Seq.{getD-take, length-take-le}
 use borrow.Author.Tests.{lt-ltb, le-ltb}
-use Rattle.lists.proofs.Each.{getD-map}
+use Rattle.lists.proofs.Each.{replicate-at, getD-map}
 use Rattle.lists.proofs.Table.{length-tabulate, getD-tabulate, tabulate-is}
 use Rattle.interpolation.specs.Interpolation.{side}
 use Rattle.staircase.specs.Parameters.{Parameters, point}
 use Rattle.rows.specs.Points.{pointAt, pointsAt, pointsOf, partyPoints}
-use Rattle.rows.proofs.Collected.{Collected, collected-none, collected-more, collected-all}
+use Rattle.lists.proofs.Known.{Written, written-more, written-all}
 
 module _ (p : Parameters) (many : ℕ) (s : ℕ → ℕ) where
   here : (i : ℕ) → i < many → pointAt p many s i ≡ point p (s i)
@@ -26,16 +25,16 @@ module _ (p : Parameters) (many : ℕ) (s : ℕ → ℕ) where
 
   -- ---- the loop
 
-  pub points-none : Collected (pointAt p many s) 0 (replicate side 0)
-  points-none = collected-none _ 0 (λ k l. absurd (not-suc-le-zero l))
+  pub points-none : Written 0 (pointAt p many s) side (min many side) 0 (replicate side 0)
+  points-none = record { long = refl; is = λ k l left. replicate-at side k 0 ∙ sym (beyond k (omega (arith, left zero-le))) }
 
-  pub points-more : {i x : ℕ} {points : List ℕ} → Collected (pointAt p many s) i points → i < min many side → x ≡ point p (s i)
-      → Collected (pointAt p many s) (i + 1) (set points i x)
-  points-more {i} {x} {points} C h x-is = collected-more _ i points C x (omega arith) (x-is ∙ sym (here i (omega arith)))
+  pub points-more : {i x : ℕ} {points : List ℕ} → Written 0 (pointAt p many s) side (min many side) i points → i < min many side → x ≡ point p (s i)
+      → Written 0 (pointAt p many s) side (min many side) (i + 1) (set points i x)
+  points-more {i} W h x-is = written-more W h (omega arith) (x-is ∙ sym (here i (omega arith)))
 
-  pub points-all : {i : ℕ} {points : List ℕ} → Collected (pointAt p many s) i points → min many side ≤ i → points ≡ pointsAt p many s
+  pub points-all : {i : ℕ} {points : List ℕ} → Written 0 (pointAt p many s) side (min many side) i points → min many side ≤ i → points ≡ pointsAt p many s
   unfolding pointsAt
-  points-all {i} {points} C h = collected-all _ i points C (λ k l b. sym (beyond k (omega arith)))
+  points-all W h = written-all W h
 
   -- ---- the entries of as many parties
 

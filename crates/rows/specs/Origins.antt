@@ -4,11 +4,10 @@ use mathlib.Core.Bool.{cond, _&&_}
 use mathlib.Core.List.{List}
 use Prim.Native.Nat.{ℕ, zero, suc, _+_, _-_, _*_, _/_, _%_}
 use lib.Dec.{ltb, leb, eqb}
-use lib.ListN.{getD}
+use lib.ListN.{length, getD}
 use Rattle.lists.specs.Table.{tabulate}
-use Rattle.interpolation.specs.Interpolation.{side}
 use Rattle.scheme.specs.Check.{rowsOfCount}
-use Rattle.staircase.specs.Coefficients.{groupOf}
+use Rattle.staircase.specs.Coefficients.{groupOf, countOf}
 
 -- the place in the block's message of the coefficient of degree e of row j: `originIn` of staircase/specs/Coefficients.antt, and 0 where there is
 -- nothing to find, namely at a key's degree, past the row's end, and where a copy would come from counts that do not fall or from no earlier
@@ -29,6 +28,10 @@ foundIn m z ds (suc bound) j e =
 unfoldable pub found : ℕ → ℕ → List ℕ → ℕ → ℕ → ℕ
 found m z ds j e = foundIn m z ds (suc j) j e
 
--- the places of row j by degree
-unfoldable pub rowOrigins : ℕ → ℕ → List ℕ → ℕ → List ℕ
-rowOrigins m z ds j = tabulate side (found m z ds j)
+-- what stands at place e once the places of row j are written over these, each at its degree
+unfoldable pub placeOver : ℕ → ℕ → List ℕ → ℕ → List ℕ → ℕ → ℕ
+placeOver m z ds j places e = cond (leb z e && ltb e (countOf m z ds j)) (found m z ds j e) (getD places e 0)
+
+-- all of them: as many as there were
+unfoldable pub originsOver : ℕ → ℕ → List ℕ → ℕ → List ℕ → List ℕ
+originsOver m z ds j places = tabulate (length places) (placeOver m z ds j places)

@@ -1,16 +1,19 @@
 // What the rows of a block are made of: a row's group and the number of its coefficients, where each of
-// them comes from, and the points at which the parties have the rows' values. The functions take any numbers,
-// and have an answer for those that no scheme has too; nobody uses it.
+// them comes from, and the points at which the parties have the rows' values. The public functions take any
+// numbers, and have an answer for those that no scheme has too; nobody uses it.
 ghost use mathlib.Core.Path.{_≡_};
+ghost use lib.Dec.{ltb};
 ghost use lib.ListN.{getD};
+ghost use Rattle.scheme.specs.Check.{rowsOfCount};
 ghost use Rattle.staircase.specs.Parameters.{Parameters, point};
 ghost use Rattle.staircase.specs.Coefficients.{groupOf, countOf};
-ghost use Rattle.rows.specs.Origins.{found, rowOrigins};
+ghost use Rattle.rows.specs.Origins.{found, originsOver};
 ghost use Rattle.rows.specs.Points.{pointsOf, partyPoints};
 ghost use Rattle.rows.specs.Sources.{SourceIs};
 use interpolation::SIDE;
 use lists::smaller;
 use lists::wide;
+use scheme::limits::MAX_BLOCK;
 
 // The point at which a party has the rows' values: its number.
 pub fn point_of(party: u8) -> u8
@@ -47,6 +50,25 @@ pub fn party_points(n: usize) -> [u8; SIDE]
     points
 }
 
+// Whether a row is among those that d parties send: it is below P of d. Written out for speed: a product takes
+// less time than the division in P. Where the block is longer than any scheme's, the product might not fit.
+fn sends(block: usize, z: u8, d: u8, row: usize) -> bool
+    ensures { λ yes. ⌜ yes ≡ ltb row (rowsOfCount block z d) ⌝ }
+{
+    // No count is this low: P is 0.
+    if d <= z {
+        return false;
+    }
+    if MAX_BLOCK < block {
+        return row < scheme::rows_of_count(block, z, wide(d));
+    }
+    // P is at most the block length.
+    if block <= row {
+        return false;
+    }
+    (row + 1) * wide(d - z) <= block
+}
+
 // The group of a row, counted from 0: the place of the first count whose P is above the row, or the number
 // of counts where there is none.
 pub fn group_of(block: usize, z: u8, counts: &[u8], row: usize) -> usize
@@ -54,7 +76,7 @@ pub fn group_of(block: usize, z: u8, counts: &[u8], row: usize) -> usize
 {
     let mut i = 0;
     while i < counts.len() {
-        if row < scheme::rows_of_count(block, z, wide(counts[i])) {
+        if sends(block, z, counts[i], row) {
             return i;
         }
         i += 1;
@@ -62,36 +84,35 @@ pub fn group_of(block: usize, z: u8, counts: &[u8], row: usize) -> usize
     i
 }
 
-// The number of coefficients of a row: the count of its group, 0 where it has none.
-pub fn count_of(block: usize, z: u8, counts: &[u8], row: usize) -> usize
-    ensures { λ d. ⌜ d ≡ countOf block z (now (counts .entry)) row ⌝ }
+// Writes the origins of a row's coefficients into `places`, each at its degree: from z up, below the row's
+// count, as many as there is room for. The other places stay as they are. Answers the count, the number of
+// the row's coefficients, 0 where it has no group.
+pub fn row_origins(block: usize, z: u8, counts: &[u8], row: usize, places: &mut [usize]) -> usize
+    ensures { λ d. ⌜ (d ≡ countOf block z (now (counts .entry)) row) × (now (places .exit) ≡ originsOver block z (now (counts .entry)) row (now (places .entry))) ⌝ }
 {
-    count_at(counts, group_of(block, z, counts, row))
-}
-
-// The origins of a row's coefficients: at each degree from z up, below the row's count, the place of the
-// coefficient in the block's message. 0 at the other degrees.
-pub fn row_origins(block: usize, z: u8, counts: &[u8], row: usize) -> [usize; SIDE]
-    ensures { λ places. ⌜ places ≡ rowOrigins block z (now (counts .entry)) row ⌝ }
-{
-    let mut places = [0usize; SIDE];
-    let end = smaller(count_of(block, z, counts, row), SIDE);
+    let i = group_of(block, z, counts, row);
+    let d = count_at(counts, i);
+    let end = smaller(d, places.len());
     let mut e = wide(z);
     while e < end {
-        places[e] = origin(block, z, counts, row, e);
+        places[e] = origin(block, z, counts, i, row, e);
         e += 1;
     }
-    places
+    d
 }
 
-// The place of a coefficient in the block's message. Following a copy home ends there, each step in an
-// earlier row.
-fn origin(block: usize, z: u8, counts: &[u8], row: usize, degree: usize) -> usize
+// The place of a coefficient in the block's message, for a row of group i. Following a copy home ends there,
+// each step in an earlier row, whose group is found once.
+fn origin(block: usize, z: u8, counts: &[u8], i: usize, row: usize, degree: usize) -> usize
+    requires { ⌜ i ≡ groupOf block z (now counts) row ⌝ }
     ensures { λ place. ⌜ place ≡ found block z (now (counts .entry)) row degree ⌝ }
 {
-    match source_of(block, z, counts, row, degree) {
+    match source_of(block, z, counts, i, row, degree) {
         Source::Message(place) => place,
-        Source::Copy(earlier, its_degree) => origin(block, z, counts, earlier, its_degree),
+        Source::Copy(earlier, its_degree) => {
+            let its_group = group_of(block, z, counts, earlier);
+            origin(block, z, counts, its_group, earlier, its_degree)
+        }
     }
 }
 
@@ -101,15 +122,15 @@ enum Source {
     Copy(usize, usize),
 }
 
-// Where the coefficient of a degree comes from. The first group holds the block's bytes in order. A later
-// group, of the count d, is filled in order with what the rows before it hold at the degrees from d up,
-// row after row, so `width` coefficients of each. Place 0 for a key, and for what is no coefficient of a
-// scheme's row.
-fn source_of(block: usize, z: u8, counts: &[u8], row: usize, degree: usize) -> Source
+// Where the coefficient of a degree comes from, in a row of group i. The first group holds the block's bytes
+// in order. A later group, of the count d, is filled in order with what the rows before it hold at the
+// degrees from d up, row after row, so `width` coefficients of each. Place 0 for a key, and for what is no
+// coefficient of a scheme's row.
+fn source_of(block: usize, z: u8, counts: &[u8], i: usize, row: usize, degree: usize) -> Source
+    requires { ⌜ i ≡ groupOf block z (now counts) row ⌝ }
     ensures { λ from. ⌜ SourceIs block z (now (counts .entry)) row degree from ⌝ }
 {
     let low = wide(z);
-    let i = group_of(block, z, counts, row);
     let d = count_at(counts, i);
     // A key.
     if degree < low {

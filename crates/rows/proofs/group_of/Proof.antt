@@ -1,11 +1,10 @@
 -- `rows::group_of` meets its contract: after i counts, the group is i more than the group among the counts that are left.
 -- Assumes nothing.
-use mathlib.Core.Path.{_≡_, sym, ap, _∙_}
+use mathlib.Core.Path.{_≡_, sym, _∙_}
 use Prim.Native.Nat.{_+_, _-_, _≤_}
 use native.Mathlib.Omega.{arith}
 use borrow.Author.Needs.{needs}
 use lib.ListN.{length, drop}
-use Rattle.scheme.specs.Check.{rowsOfCount}
 use Rattle.staircase.specs.Coefficients.{groupOf}
 use Rattle.rows.proofs.Groups.{group-end, group-here, group-next}
 use Rattle.rows.proofs.group_of.Statement.{statement}
@@ -24,19 +23,16 @@ group-of-spec =
     (λ c. (omega arith, omega arith))
     (λ c. search needs)
     (λ c κs. search needs)
-    (λ c κs. search needs)
     (λ c.
-    let l = c .before .before .before .before .before in
+    let l = c .before .before .before .before in
     let a = l .before .before .args in
-    let rows = c .before .rows-of-count .ensures ∙ ap (rowsOfCount (a .block) (a .z)) (c .before .before .wide .ensures) in
-    omega (arith, l .loop .inv .1, group-here (a .block) (a .z) (a .counts .now) (a .row) (l .loop .i) (omega arith) (omega (arith, rows))))
+    omega (arith, l .loop .inv .1, group-here (a .block) (a .z) (a .counts .now) (a .row) (l .loop .i) (omega arith) (sym (c .before .sends .ensures) ∙ c .if1 .taken)))
     (λ c. search needs)
     (λ c. search needs)
     (λ c.
-    let l = c .before .before .before .before .before in
+    let l = c .before .before .before .before in
     let a = l .before .before .args in
-    let rows = c .before .rows-of-count .ensures ∙ ap (rowsOfCount (a .block) (a .z)) (c .before .before .wide .ensures) in
-    let next = group-next (a .block) (a .z) (a .counts .now) (a .row) (l .loop .i) (omega arith) (omega (arith, rows)) in
+    let next = group-next (a .block) (a .z) (a .counts .now) (a .row) (l .loop .i) (omega arith) (sym (c .before .sends .ensures) ∙ c .if1 .left) in
     (omega arith, sym next ∙ l .loop .inv .1))
     (λ c.
     let l = c .before in

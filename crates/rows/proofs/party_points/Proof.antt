@@ -1,18 +1,19 @@
--- `rows::party_points` meets its contract. The invariant: the first i entries are the points of parties 1 to i, and the others 0. The measure is
--- what is left of them.
+-- `rows::party_points` meets its contract. The invariant: all entries are right but those from place i up to the end. The measure is how
+-- many are left.
 -- Assumes nothing.
-use Prim.Native.Nat.{_+_, _-_}
+use Prim.Native.Nat.{_+_, _-_, min}
 use native.Mathlib.Omega.{arith}
 use borrow.Author.Needs.{needs}
+use Rattle.interpolation.specs.Interpolation.{side}
 use Rattle.staircase.specs.Parameters.{Parameters}
 use Rattle.rows.specs.Points.{pointAt, partyPoints}
-use Rattle.rows.proofs.Collected.{Collected}
+use Rattle.lists.proofs.Known.{Written}
 use Rattle.rows.proofs.Points.{points-none, points-more, points-all}
 use Rattle.rows.proofs.party_points.Statement.{statement}
 use Rattle.rows.proofs.party_points.Tie as tie
 
 abbrev Inv-loop : tie.InvT-loop
-Inv-loop n points₀ end i₀ points i = (p : Parameters) → Collected (pointAt p n (λ k. k + 1)) i points
+Inv-loop n points₀ end i₀ points i = (p : Parameters) → Written 0 (pointAt p n (λ k. k + 1)) side (min n side) i points
 
 abbrev μ-loop : tie.MeasureT-loop
 μ-loop n points₀ end i₀ points i = end - i

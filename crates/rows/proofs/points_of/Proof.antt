@@ -1,19 +1,20 @@
--- `rows::points_of` meets its contract. The invariant: the first i entries are the parties' points, and the others 0. The measure is what is
--- left of them.
+-- `rows::points_of` meets its contract. The invariant: all entries are right but those from place i up to the end. The measure is how many
+-- are left.
 -- Assumes nothing.
-use Prim.Native.Nat.{_-_}
+use Prim.Native.Nat.{_-_, min}
 use native.Mathlib.Omega.{arith}
 use lib.ListN.{length, getD}
 use borrow.Author.Needs.{needs}
+use Rattle.interpolation.specs.Interpolation.{side}
 use Rattle.staircase.specs.Parameters.{Parameters}
 use Rattle.rows.specs.Points.{pointAt, pointsOf}
-use Rattle.rows.proofs.Collected.{Collected}
+use Rattle.lists.proofs.Known.{Written}
 use Rattle.rows.proofs.Points.{points-none, points-more, points-all}
 use Rattle.rows.proofs.points_of.Statement.{statement}
 use Rattle.rows.proofs.points_of.Tie as tie
 
 abbrev Inv-loop : tie.InvT-loop
-Inv-loop parties points₀ end i₀ points i = (p : Parameters) → Collected (pointAt p (length parties) (λ k. getD parties k 0)) i points
+Inv-loop parties points₀ end i₀ points i = (p : Parameters) → Written 0 (pointAt p (length parties) (λ k. getD parties k 0)) side (min (length parties) side) i points
 
 abbrev μ-loop : tie.MeasureT-loop
 μ-loop parties points₀ end i₀ points i = end - i

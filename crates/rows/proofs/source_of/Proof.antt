@@ -8,20 +8,20 @@ use Rattle.rows.proofs.Steps.{First, Later, found-key, found-past, foun
 use Rattle.rows.proofs.source_of.Statement.{statement}
 use Rattle.rows.proofs.source_of.Tie as tie
 
-in-first : (c : tie.Then3) → let w = c .before .before .before in let a = w .before .before .before .before .args in
-    First (a .block) (a .z) (a .counts .now) (a .row) (a .degree) (w .count-at .result) (w .before .before .wide .result)
+in-first : (c : tie.Then3) → let w = c .before .before .before in let a = w .before .before .before .args in
+    First (a .block) (a .z) (a .counts .now) (a .row) (a .degree) (w .count-at .result) (w .before .wide .result)
 in-first c =
     let w = c .before .before .before in
-    first _ _ _ _ _ _ _ _ (w .before .before .wide .ensures) (w .before .group-of .ensures) (w .count-at .ensures) (omega arith) (omega arith) (c .if3 .taken)
+    first _ _ _ _ _ _ _ _ (w .before .wide .ensures) (w .before .before .before .pre) (w .count-at .ensures) (omega arith) (omega arith) (c .if3 .taken)
 
 in-later : (c : tie.After-rows-of-count) → let u = c .before .before in let w = u .before .before .before .before in
-    let a = w .before .before .before .before .args in let d = w .count-at .result in let low = w .before .before .wide .result in
+    let a = w .before .before .before .args in let d = w .count-at .result in let low = w .before .wide .result in
     let before = c .rows-of-count .result in
     Later (a .block) (a .z) (a .counts .now) (a .row) (a .degree) d (u .count-at2 .result) before ((a .row - before) * (d - low) + (a .degree - low))
 in-later c =
     let u = c .before .before in
     let w = u .before .before .before .before in
-    later _ _ _ _ _ _ _ _ (w .before .before .wide .ensures) (w .before .group-of .ensures) (w .count-at .ensures) (omega arith) (omega arith)
+    later _ _ _ _ _ _ _ _ (w .before .wide .ensures) (w .before .before .before .pre) (w .count-at .ensures) (omega arith) (omega arith)
     _ (u .before .if3 .left) (u .count-at2 .ensures) _ _ (c .before .if4 .left) (c .rows-of-count .ensures) refl
 
 pub source-of-spec : {M : Type 1} → statement M
@@ -30,13 +30,12 @@ source-of-spec =
     (tie.spec
     (λ c κs. search needs)
     (λ c κs. search needs)
-    (λ c κs. search needs)
     (λ c.
     let w = c .before in
-    found-key _ _ _ _ _ _ _ _ (w .before .before .wide .ensures) (w .before .group-of .ensures) (w .count-at .ensures) (c .if1 .taken))
+    found-key _ _ _ _ _ _ _ _ (w .before .wide .ensures) (w .before .before .before .pre) (w .count-at .ensures) (c .if1 .taken))
     (λ c.
     let w = c .before .before in
-    found-past _ _ _ _ _ _ _ _ (w .before .before .wide .ensures) (w .before .group-of .ensures) (w .count-at .ensures) (c .if2 .taken))
+    found-past _ _ _ _ _ _ _ _ (w .before .wide .ensures) (w .before .before .before .pre) (w .count-at .ensures) (c .if2 .taken))
     (λ c. search needs)
     (λ c. let f = in-first c in omega arith)
     (λ c. let f = in-first c in omega arith)
@@ -45,7 +44,7 @@ source-of-spec =
     (λ c κs. search needs)
     (λ c.
     let w = c .before .before .before .before .before in
-    found-rising _ _ _ _ _ _ _ _ (w .before .before .wide .ensures) (w .before .group-of .ensures) (w .count-at .ensures) (omega arith) (omega arith)
+    found-rising _ _ _ _ _ _ _ _ (w .before .wide .ensures) (w .before .before .before .pre) (w .count-at .ensures) (omega arith) (omega arith)
     _ (c .before .before .if3 .left) (c .before .count-at2 .ensures) (c .if4 .taken))
     (λ c κs. search needs)
     (λ c. let l = in-later c in omega arith)
