@@ -6,11 +6,11 @@ use mathlib.Core.List.{List}
 use mathlib.Core.Logic.{_⊎_}
 use Prim.Native.Nat.{ℕ, _+_, _*_, _≤_, _<_}
 use lib.Dec.{ltb}
-use lib.ListN.{length, getD, take}
+use lib.ListN.{length, getD}
 use Rattle.lists.specs.Table.{tabulate, joined}
 use Rattle.interpolation.specs.RowValue.{valuesOf}
 use Rattle.scheme.specs.declared.Scheme.{Scheme}
-use Rattle.columns.specs.Columns.{strided}
+use Rattle.columns.specs.Columns.{strided, flatColumns}
 use Rattle.staircase.specs.Parameters.{parametersOf, point}
 use Rattle.staircase.specs.Coefficients.{origin, keyPlace, shareByte}
 use Rattle.rows.specs.Sources.{RowOrigins}
@@ -31,16 +31,16 @@ abbrev pub IsColumn : Scheme → ℕ → List ℕ → List ℕ → ℕ → ℕ �
 IsColumn s place message keys t j e r =
     (ds : List ℕ) → (s .z ≤ e → place ≡ origin (s .block) (s .z) ds j e) → r ≡ column (s .block) (s .rows) (s .z) ds message keys t j e
 
--- the places are the origins of row j: then the first d of the columns are the row's
-abbrev pub AreColumns : Scheme → List ℕ → List ℕ → List ℕ → ℕ → ℕ → ℕ → List (List ℕ) → Type 0
-AreColumns s places message keys t j d columns =
+-- the places are the origins of row j: then the first d of the columns, which stand one after another, are the row's
+abbrev pub AreColumns : Scheme → List ℕ → List ℕ → List ℕ → ℕ → ℕ → ℕ → List ℕ → Type 0
+AreColumns s places message keys t j d bytes =
     (ds : List ℕ) → RowOrigins (s .block) (s .z) ds j d places
-    → take d columns ≡ tabulate d (column (s .block) (s .rows) (s .z) ds message keys t j)
+    → flatColumns d bytes ≡ tabulate d (column (s .block) (s .rows) (s .z) ds message keys t j)
 
 -- in each party's share the row's values at its point were written, `many` of them from place q on
-abbrev pub RowFilled : ℕ → ℕ → ℕ → List (List ℕ) → ℕ → List ℕ → List ℕ → List ℕ → Type 0
-RowFilled share q many columns d points o w =
-    Filled share q many (λ a k. getD (valuesOf (getD points a 0) (take d columns)) k 0) (length points) o w
+abbrev pub RowFilled : ℕ → ℕ → ℕ → List ℕ → ℕ → List ℕ → List ℕ → List ℕ → Type 0
+RowFilled share q many bytes d points o w =
+    Filled share q many (λ a k. getD (valuesOf (getD points a 0) (flatColumns d bytes)) k 0) (length points) o w
 
 -- the shares of all parties, byte by byte
 abbrev pub filledShares : Scheme → List ℕ → List ℕ → List ℕ → ℕ → List ℕ

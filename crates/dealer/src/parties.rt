@@ -3,17 +3,24 @@ ghost use mathlib.Core.Path.{_≡_};
 ghost use Prim.Native.Nat.{_+_, _*_, _≤_};
 ghost use lib.ListN.{length, take};
 ghost use Rattle.gf256.specs.Lanes.{lanes};
-ghost use Rattle.interpolation.specs.Interpolation.{side};
 ghost use Rattle.dealer.specs.Columns.{RowFilled};
+use columns::FLAT;
 use gf256::lanes::LANES;
-use interpolation::SIDE;
 
-// Writes the first bytes, as many as there is room for.
+// Writes the first bytes, as many as there is room for: all 64 but for the last batch, and those have a
+// loop of their own, which the compiler makes faster code of.
 fn put(values: [u8; LANES], out: &mut [u8])
     requires { ⌜ length (now out) ≤ lanes ⌝ }
     ensures { λ _. ⌜ now (out .exit) ≡ take (length (now (out .entry))) values ⌝ }
 {
     let mut i = 0;
+    if out.len() == LANES {
+        while i < LANES {
+            out[i] = values[i];
+            i += 1;
+        }
+        return;
+    }
     while i < out.len() {
         out[i] = values[i];
         i += 1;
@@ -23,7 +30,7 @@ fn put(values: [u8; LANES], out: &mut [u8])
 // Writes into each party's share, at place q, the first `many` bytes of the row's values at its point.
 // The shares stand one after another, in the order of the points.
 pub(crate) fn fill_parties(
-    columns: &[[u8; LANES]; SIDE],
+    columns: &[u8; FLAT],
     d: usize,
     points: &[u8],
     share: usize,
@@ -31,12 +38,12 @@ pub(crate) fn fill_parties(
     many: usize,
     out: &mut [u8],
 )
-    requires { ⌜ (d ≤ side) × (length (now columns) ≡ side) × (many ≤ lanes) × (q + many ≤ share) × (length (now out) ≡ length (now points) * share) ⌝ }
+    requires { ⌜ (many ≤ lanes) × (q + many ≤ share) × (length (now out) ≡ length (now points) * share) ⌝ }
     ensures { λ _. ⌜ RowFilled share q many (now (columns .entry)) d (now (points .entry)) (now (out .entry)) (now (out .exit)) ⌝ }
 {
     let mut a = 0;
     while a < points.len() {
-        let values = columns::row_values(columns, d, points[a]);
+        let values = columns::flat_values(columns, d, points[a]);
         let at = a * share + q;
         let end = at + many;
         put(values, &mut out[at..end]);

@@ -4,17 +4,19 @@
 ghost use mathlib.Core.Path.{_≡_};
 ghost use Prim.Native.Nat.{ℕ, _*_, _+_, _≤_, _<_};
 ghost use lib.ListN.{length, getD};
+ghost use Rattle.gf256.specs.Lanes.{lanes};
 ghost use Rattle.interpolation.specs.Interpolation.{side};
 ghost use Rattle.scheme.specs.Facts.{SchemeIs};
 ghost use Rattle.scheme.specs.Limits.{maxParties, maxBlock, maxMessage};
 ghost use Rattle.dealer.specs.Columns.{IsColumn, AreColumns, filledShares};
 use crate::parties::fill_parties;
+use columns::FLAT;
 use gf256::lanes::LANES;
 use interpolation::SIDE;
 use lists::wide;
 use scheme::Scheme;
 
-// The coefficients of degree e of row j in 64 blocks from t on: key bytes below z, else the message bytes
+// Writes the coefficients of degree e of row j in 64 blocks from t on: key bytes below z, else the message bytes
 // at the coefficient's place in a block.
 fn column_of(
     s: Scheme,
@@ -24,20 +26,22 @@ fn column_of(
     t: usize,
     j: usize,
     e: usize,
-) -> [u8; LANES]
-    requires { ⌜ (s .block ≤ maxBlock) × (s .rows ≤ maxBlock) × (s .z ≤ maxParties) × (t ≤ maxMessage) × (j < s .rows) × (e < side) × (s .z ≤ e → place < s .block) ⌝ }
-    ensures { λ r. ⌜ IsColumn s place (now (message .entry)) (now (keys .entry)) t j e r ⌝ }
+    out: &mut [u8],
+)
+    requires { ⌜ (s .block ≤ maxBlock) × (s .rows ≤ maxBlock) × (s .z ≤ maxParties) × (t ≤ maxMessage) × (j < s .rows) × (e < side) × (s .z ≤ e → place < s .block) × (length (now out) ≡ lanes) ⌝ }
+    ensures { λ _. ⌜ IsColumn s place (now (message .entry)) (now (keys .entry)) t j e (now (out .exit)) ⌝ }
 {
     let block = s.block;
     let rows = s.rows;
     let z = wide(s.z);
     if e < z {
-        return columns::gather(keys, (t * rows + j) * z + e, rows * z);
+        columns::gather_into(keys, (t * rows + j) * z + e, rows * z, out);
+        return;
     }
-    columns::gather(message, t * block + place, block)
+    columns::gather_into(message, t * block + place, block, out);
 }
 
-// The columns of row j in 64 blocks from t on, one for each of its d coefficients, and zeros after them.
+// Writes the columns of row j in 64 blocks from t on, one for each of its d coefficients.
 fn row_columns(
     s: Scheme,
     places: &[usize; SIDE],
@@ -46,17 +50,18 @@ fn row_columns(
     t: usize,
     j: usize,
     d: usize,
-) -> [[u8; LANES]; SIDE]
-    requires { ⌜ (s .block ≤ maxBlock) × (s .rows ≤ maxBlock) × (s .z ≤ maxParties) × (t ≤ maxMessage) × (j < s .rows) × (d ≤ side) × (length (now places) ≡ side) × ((e : ℕ) → s .z ≤ e → e < d → getD (now places) e 0 < s .block) ⌝ }
-    ensures { λ r. ⌜ AreColumns s (now (places .entry)) (now (message .entry)) (now (keys .entry)) t j d r ⌝ }
+    columns: &mut [u8],
+)
+    requires { ⌜ (s .block ≤ maxBlock) × (s .rows ≤ maxBlock) × (s .z ≤ maxParties) × (t ≤ maxMessage) × (j < s .rows) × (d ≤ side) × (length (now columns) ≡ side * lanes) × (length (now places) ≡ side) × ((e : ℕ) → s .z ≤ e → e < d → getD (now places) e 0 < s .block) ⌝ }
+    ensures { λ _. ⌜ AreColumns s (now (places .entry)) (now (message .entry)) (now (keys .entry)) t j d (now (columns .exit)) ⌝ }
 {
-    let mut columns = [[0u8; LANES]; SIDE];
     let mut e = 0;
     while e < d {
-        columns[e] = column_of(s, places[e], message, keys, t, j, e);
+        let at = e * LANES;
+        let end = at + LANES;
+        column_of(s, places[e], message, keys, t, j, e, &mut columns[at..end]);
         e += 1;
     }
-    columns
 }
 
 // Writes all shares: byte j × blocks + t of each is the value of row j of block t at its party's point. The points
@@ -76,15 +81,16 @@ pub(crate) fn fill_shares(
     let rows = s.rows;
     let share = rows * blocks;
     let points = rows::party_points(n);
+    let mut places = [0usize; SIDE];
+    let mut columns = [0u8; FLAT];
     let mut q = 0;
     let mut j = 0;
     'row: while j < rows {
-        let d = rows::count_of(s.block, s.z, counts, j);
-        let places = rows::row_origins(s.block, s.z, counts, j);
+        let d = rows::row_origins(s.block, s.z, counts, j, &mut places);
         let mut t = 0;
         'batch: while t < blocks {
             let many = columns::batch_of(blocks - t);
-            let columns = row_columns(s, &places, message, keys, t, j, d);
+            row_columns(s, &places, message, keys, t, j, d, &mut columns);
             fill_parties(&columns, d, &points[..n], share, q, many, out);
             q += many;
             t += many;

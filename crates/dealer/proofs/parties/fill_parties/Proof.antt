@@ -1,6 +1,6 @@
 -- `dealer::parties::fill_parties` meets its contract. The invariant: the first a shares are filled. The measure is what is left of them.
 -- Assumes nothing.
-use mathlib.Core.Path.{_≡_, refl, _∙_}
+use mathlib.Core.Path.{_≡_, refl}
 use Prim.Native.Nat.{_+_, _-_, _*_, _≤_}
 use native.Mathlib.Omega.{arith}
 use lib.ListN.{length, getD, take, drop}
@@ -8,7 +8,7 @@ use borrow.Author.Needs.{needs}
 use Rattle.lists.proofs.Joined.{row-room}
 use Rattle.lists.proofs.Parts.{part-length}
 use Rattle.interpolation.specs.RowValue.{valuesOf}
-use Rattle.columns.proofs.Laws.{values-take}
+use Rattle.columns.specs.Columns.{flatColumns}
 use Rattle.dealer.specs.Columns.{Filled}
 use Rattle.dealer.proofs.Put.{put-length, put-entry}
 use Rattle.dealer.proofs.Filled.{filled-none, filled-more}
@@ -17,7 +17,7 @@ use Rattle.dealer.proofs.parties.fill_parties.Tie as tie
 
 abbrev Inv-loop : tie.InvT-loop
 Inv-loop columns d points share q many out₀ a₀ out a =
-    (a ≤ length points) × Filled share q many (λ s k. getD (valuesOf (getD points s 0) (take d columns)) k 0) a out₀ out
+    (a ≤ length points) × Filled share q many (λ s k. getD (valuesOf (getD points s 0) (flatColumns d columns)) k 0) a out₀ out
 
 abbrev μ-loop : tie.MeasureT-loop
 μ-loop columns d points share q many out₀ a₀ out a = length points - a
@@ -53,13 +53,12 @@ loop-again c =
     let part = take (at + a .many - at) (drop at (l .out)) in
     let lent : length part ≡ a .many = part-length at (a .many) (l .out) (inside i) in
     let x = getD (a .points .now) (l .a) 0 in
-    let coefficients = take (a .d) (a .columns .now) in
-    let values : v .row-values .result ≡ valuesOf x coefficients =
-    v .row-values .ensures ∙ values-take (a .d) (a .columns .now) x (s .pre .1) (s .pre .0) in (
+    let coefficients = flatColumns (a .d) (a .columns .now) in
+    let values : v .flat-values .result ≡ valuesOf x coefficients = v .flat-values .ensures in (
       omega arith,
-      filled-more (length (a .points .now)) y (l .inv .1) (i .loop-test .taken) (s .pre .3) (s .pre .4) refl
-          (put-length y (v .row-values .result) part (a .many) x coefficients (p .put .ensures) lent values (s .pre .2))
-          (put-entry y (v .row-values .result) part (a .many) x coefficients (p .put .ensures) lent values),
+      filled-more (length (a .points .now)) y (l .inv .1) (i .loop-test .taken) (s .pre .1) (s .pre .2) refl
+          (put-length y (v .flat-values .result) part (a .many) x coefficients (p .put .ensures) lent values (s .pre .0))
+          (put-entry y (v .flat-values .result) part (a .many) x coefficients (p .put .ensures) lent values),
     )
 
 pub fill-parties-spec : {M : Type 1} → statement M
@@ -78,7 +77,7 @@ fill-parties-spec =
     (λ c κs.
     let i = c .before .before .before in
     let a = start i .args in
-    rw (part-length (i .before .loop .a * a .share + a .q) (a .many) (i .before .loop .out) (inside i)) (start i .pre .2))
+    rw (part-length (i .before .loop .a * a .share + a .q) (a .many) (i .before .loop .out) (inside i)) (start i .pre .0))
     (λ c. search needs)
     (λ c. search needs)
     loop-again

@@ -13,7 +13,7 @@ use Rattle.dealer.proofs.shares.column_of.Tie as tie
 
 -- the entry
 abbrev start : tie.After-wide → tie.Start
-start c = c .before .before .before
+start c = c .before .before .before .before
 
 -- the places, in products of small numbers
 module _ (c : tie.After-wide) where
@@ -56,12 +56,17 @@ column-of-spec =
     (λ c. omega (arith, keys-before (c .before)))
     (λ c. omega (arith, keys-apart (c .before)))
     (λ c κs. search needs)
+    (λ c. search needs)
     (λ c ds o.
-    let w = c .before .before in
-    rw (← w .wide .ensures, lt-ltb (start w .args .e) (w .wide .result) (c .before .if1 .taken)) (c .gather .ensures))
+    let i = c .before .before .before .before in
+    let w = i .before in
+    rw (← w .wide .ensures, lt-ltb (start w .args .e) (w .wide .result) (i .if1 .taken)) (rw (start w .pre .7) at (c .before .before .gather-into .ensures)))
     (λ c. omega (arith, bytes-before (c .before)))
     (λ c. omega (arith, bytes-before (c .before), inside c))
     (λ c κs. search needs)
+    (λ c. search needs)
     (λ c ds o.
-    let w = c .before .before in
-    rw (← o (from (c .before)), ← w .wide .ensures, le-ltb (start w .args .e) (w .wide .result) (c .before .if1 .left)) (c .gather2 .ensures)))
+    let i = c .before .before .before .before in
+    let w = i .before in
+    rw (← o (from i), ← w .wide .ensures, le-ltb (start w .args .e) (w .wide .result) (i .if1 .left))
+    (rw (start w .pre .7) at (c .before .before .gather-into2 .ensures))))
