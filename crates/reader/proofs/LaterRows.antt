@@ -44,7 +44,7 @@ module _ (s : Scheme) (ds : List ℕ) where
 
 -- ---- an accepted scheme, and its count d
 
-module _ {s : Scheme} {ds : List ℕ} {d blocks : ℕ} {points prefixes : List ℕ} (I : Input s ds d blocks points prefixes) where
+module _ {s : Scheme} {ds : List ℕ} {d blocks : ℕ} {prefixes : List ℕ} (I : Input s ds d blocks prefixes) where
   pub A : facts.SchemeFacts (s .n) (s .r) (s .z) ds (s .block) (s .rows)
   A = facts-of s ds (I .scheme)
 

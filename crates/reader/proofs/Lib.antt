@@ -1,5 +1,6 @@
 mod BasisAnswers
 mod BasisTable
+mod Doublings
 mod Writes
 mod Readings
 mod RowStep

@@ -1,15 +1,17 @@
 -- What the reader's loops are told holds of the opened blocks: some keys turn these into the prefixes, and the prefixes' bytes are then values of
 -- the rows of these blocks under these keys.
 -- Assumes nothing.
-use mathlib.Core.Path.{_≡_, refl, sym, _∙_}
+use mathlib.Core.Path.{_≡_, sym, _∙_}
 use mathlib.Core.Bool.{true, false}
 use mathlib.Core.List.{List, map}
 use Prim.Native.Nat.{ℕ, _*_, _≤_}
 use native.Mathlib.Omega.{arith}
-use lib.ListN.{length, getD, take}
+use lib.ListN.{length, getD, take, length-map}
 use Rattle.lists.specs.Each.{Each, Distinct, Byte, occurs}
-use Rattle.lists.proofs.Each.{getD-map}
-use Rattle.interpolation.specs.Interpolation.{basisTable}
+use Rattle.lists.proofs.Each.{getD-map, true-distinct}
+use Rattle.interpolation.specs.Interpolation.{side}
+use Rattle.interpolation.specs.Opening.{openingTable}
+use Rattle.interpolation.proofs.Laws.{opening-parties, opening-known}
 use Rattle.scheme.specs.declared.Scheme.{Scheme}
 use Rattle.scheme.specs.Facts.{SchemeIs}
 use Rattle.scheme.specs.Check.{rowsOfCount}
@@ -22,10 +24,11 @@ use Rattle.staircase.proofs.Columns.{part-at}
 use Rattle.staircase.proofs.Points.{points-bytes, points-distinct}
 use Rattle.scheme.specs.Readers.{readersRefused}
 use Rattle.staircase.specs.Exactness.{openedString, GivesPrefixes}
-use Rattle.reader.specs.Decoding.{BasisOf, sentBytes, Sent, EachSent}
+use Rattle.reader.specs.Decoding.{WeightsOf, sentBytes, Sent, EachSent}
 use Rattle.scheme.proofs.Laws.{readers-rise, parties-distinct}
-use Rattle.staircase.proofs.Sizes.{rows-within}
+use Rattle.staircase.proofs.Sizes.{rows-within, count-most}
 use Rattle.staircase.proofs.WholeBlocks.{exact}
+use Rattle.rows.proofs.Scheme.{facts-of}
 
 -- s is what the check answers for its parameters, and N blocks are read by these parties
 module _ (s : Scheme) (ds : List ℕ) (S : SchemeIs s (s .n) (s .r) (s .z) ds) (parties : List ℕ) (counted : occurs (length parties) ds ≡ true)
@@ -42,16 +45,26 @@ module _ (s : Scheme) (ds : List ℕ) (S : SchemeIs s (s .n) (s .r) (s .z) ds) (
   few : rowsOfCount (block p) (s .z) d ≤ rows p
   few = rows-within p (S .passed) d counted
 
+  first-most : getD ds 0 0 ≤ side
+  first-most =
+      let A = facts-of s ds S in
+      omega (arith, A .high 0 (A .some), A .sizes .parties-high)
+
   right : Distinct parties × Each (Party p) parties
   right = parties-distinct (s .n) parties (readers-rise (s .n) parties passed)
 
-  -- the basis of the parties' points
-  basis-of : BasisOf points-of (basisTable points-of)
-  basis-of =
+  -- the weights of an opening at the parties' points
+  weights-of : (top : ℕ) → top ≤ side → WeightsOf points-of d top (openingTable points-of top)
+  weights-of top most =
+      let n : length points-of ≡ d = length-map parties (point p) in
+      let l : d ≤ side = count-most p (S .passed) d counted in
+      let apart = points-distinct p (S .passed) parties (right .1) (right .0) in
       record {
-        is = refl;
+        long = n;
         bytes = points-bytes p (S .passed) parties (right .1);
-        distinct = points-distinct p (S .passed) parties (right .1) (right .0);
+        distinct = apart;
+        parties = λ a e ha he. opening-parties points-of top a e (rw n ha) (omega arith) (omega arith) (rw n l) (true-distinct points-of apart);
+        known = λ i e low high he. rw n at (opening-known points-of top i e (rw n low) high (omega arith) (omega arith));
       }
 
   -- N whole blocks under keys that give these prefixes
@@ -70,12 +83,12 @@ module _ (s : Scheme) (ds : List ℕ) (S : SchemeIs s (s .n) (s .r) (s .z) ds) (
 
   -- so what the reader's loops say of the blocks that were sent holds of the opened blocks
   pub begins : (prefixes : List ℕ) → length prefixes ≡ sentBytes s d N → Each Byte prefixes
-      → (points : List ℕ) (basis : List (List ℕ)) → points ≡ points-of → basis ≡ basisTable points
-      → (message : ℕ) (out : List ℕ) → EachSent s ds d N points basis prefixes (λ B. out ≡ take message B)
+      → (points : List ℕ) (weights : List (List ℕ)) → points ≡ points-of → weights ≡ openingTable points (getD ds 0 0)
+      → (message : ℕ) (out : List ℕ) → EachSent s ds d N weights prefixes (λ B. out ≡ take message B)
       → out ≡ take message (openedString p parties N prefixes)
   unfolding openedString staircase
-  begins prefixes long bytes points basis points-are basis-is message out E =
+  begins prefixes long bytes points weights points-are weights-are message out E =
       let X = exact p (S .passed) parties counted (right .0) (right .1) N in
       let found = X .exists prefixes (rw (S .block-is) at long, bytes) in
-      E (openedString p parties N prefixes) (found .0) (rw (basis-is, points-are) basis-of)
-      (rw points-are (sent-by prefixes (openedString p parties N prefixes) (found .0) (X .bytes prefixes) (found .1) (found .2)))
+      E (openedString p parties N prefixes) (found .0) points-of (rw (weights-are, points-are) (weights-of (getD ds 0 0) first-most))
+      (sent-by prefixes (openedString p parties N prefixes) (found .0) (X .bytes prefixes) (found .1) (found .2))

@@ -17,10 +17,10 @@ use Rattle.lists.proofs.Table.{length-tabulate, getD-tabulate}
 use Rattle.lists.proofs.Tests.{lt-or-le, cond-ind}
 use Rattle.scheme.specs.declared.Scheme.{Scheme}
 use Rattle.staircase.specs.Coefficients.{groupOf, countOf, origin, coefficientAt}
-use Rattle.staircase.proofs.Groups.{rows-most, group-is}
+use Rattle.staircase.proofs.Groups.{counts-fall, rows-most, group-is}
 use Rattle.rows.specs.Sources.{RowOrigins}
 use Rattle.reader.specs.declared.decoding.Sizes.{Sizes}
-use Rattle.reader.specs.Decoding.{SizesFit, RowFits, RowOf, HasPlaces, Solved, Solves, sentRows, rowsBefore, Input, Sent, EachSent, Found}
+use Rattle.reader.specs.Decoding.{SizesFit, RowFits, WeightsOf, RowOf, HasPlaces, Solved, Solves, sentRows, rowsBefore, Input, Sent, EachSent, Found}
 use Rattle.reader.proofs.LaterRows.{before-some, before-next, A, order-of, degree-within, count-high, group-most}
 
 -- the coefficients of blocks and keys that are bytes
@@ -76,8 +76,8 @@ module _ (d blocks used : ℕ) {from end from′ end′ : ℕ} (e : from ≡ fro
 
 -- ---- row j of the group g, in the code's numbers: P rows of d, and the group's rows from `from` to `end` - 1
 
-pub record RowAt (s : Scheme) (ds : List ℕ) (d blocks : ℕ) (points prefixes : List ℕ) (g P from end j : ℕ) : Type 0 where
-  pub input : Input s ds d blocks points prefixes
+pub record RowAt (s : Scheme) (ds : List ℕ) (d blocks : ℕ) (prefixes : List ℕ) (g P from end j : ℕ) : Type 0 where
+  pub input : Input s ds d blocks prefixes
   pub group : g < length ds
   pub above : d ≤ getD ds g 0
   pub P-is : P ≡ sentRows s d
@@ -86,7 +86,7 @@ pub record RowAt (s : Scheme) (ds : List ℕ) (d blocks : ℕ) (points prefixes 
   pub low : from ≤ j
   pub high : j < end
 
-module _ {s : Scheme} {ds : List ℕ} {d blocks : ℕ} {points prefixes : List ℕ} {g P from end j : ℕ} (R : RowAt s ds d blocks points prefixes g P from end j) where
+module _ {s : Scheme} {ds : List ℕ} {d blocks : ℕ} {prefixes : List ℕ} {g P from end j : ℕ} (R : RowAt s ds d blocks prefixes g P from end j) where
   own : j < sentRows s (getD ds g 0)
   own = omega (arith, R .high, R .end-is, before-next s ds g)
 
@@ -109,15 +109,25 @@ module _ {s : Scheme} {ds : List ℕ} {d blocks : ℕ} {points prefixes : List �
   abbrev pub sizes : Sizes
   sizes = record { z = s .z; d = d; block = s .block; blocks = blocks; prefix = P * blocks }
 
-  pub sizes-fit : SizesFit sizes points prefixes
+  pub sizes-fit : SizesFit sizes prefixes
   sizes-fit =
       record {
         z-low = le-of-lt (order-of (R .input) .above);
         d-high = count-high (R .input);
         block-high = A (R .input) .limit;
         blocks-high = R .input .blocks-high;
-        points-long = R .input .points-long;
         prefixes-long = R .input .prefixes-long ∙ ap (λ (x : ℕ). d * (x * blocks)) (sym (R .P-is));
+      }
+
+  -- the weights for the largest count are also those for the row's
+  row-weights : {points : List ℕ} {weights : List (List ℕ)} → WeightsOf points d (getD ds 0 0) weights → WeightsOf points d (getD ds g 0) weights
+  row-weights W =
+      record {
+        long = W .long;
+        bytes = W .bytes;
+        distinct = W .distinct;
+        parties = W .parties;
+        known = λ i e low high. W .known i e low (omega (arith, counts-fall (s .n) (s .r) (s .z) ds (s .block) (s .rows) (A (R .input)) 0 g zero-le (R .group)));
       }
 
   module _ {places : List ℕ} (O : RowOrigins (s .block) (s .z) ds j (getD ds g 0) places) where
@@ -131,9 +141,9 @@ module _ {s : Scheme} {ds : List ℕ} {d blocks : ℕ} {points prefixes : List �
         }
 
     -- the row of each block of B
-    row-sent : (B K : List ℕ) → Sent s ds d blocks points prefixes B K → RowOf sizes (getD ds g 0) (j * blocks) places points prefixes B
+    row-sent : (B K points : List ℕ) → Sent s ds d blocks points prefixes B K → RowOf sizes (getD ds g 0) (j * blocks) places points prefixes B
     unfolding coefficientAt
-    row-sent B K X =
+    row-sent B K points X =
         record {
           row = λ t. tabulate (countOf (s .block) (s .z) ds j) (coefficientAt (s .block) (s .rows) (s .z) ds B K t j);
           long = λ t h. length-tabulate {A = ℕ} (countOf (s .block) (s .z) ds j) _ ∙ sym row-count;
@@ -173,6 +183,6 @@ module _ {s : Scheme} {ds : List ℕ} {d blocks : ℕ} {points prefixes : List �
               rw same at v
 
     -- the row's loop, for every B that has these prefixes
-    pub row-done : (w w′ : List ℕ) (basis : List (List ℕ)) → Solves sizes (getD ds g 0) (j * blocks) places points basis prefixes 0 blocks w w′
-        → EachSent s ds d blocks points basis prefixes (λ B. Took s ds d blocks g j B w → Took s ds d blocks g (j + 1) B w′)
-    row-done w w′ basis F B K I X T = row-found B w T w′ (F B I (row-sent B K X) (row-known B w T))
+    pub row-done : (w w′ : List ℕ) (weights : List (List ℕ)) → Solves sizes (getD ds g 0) (j * blocks) places weights prefixes 0 blocks w w′
+        → EachSent s ds d blocks weights prefixes (λ B. Took s ds d blocks g j B w → Took s ds d blocks g (j + 1) B w′)
+    row-done w w′ weights F B K points W X T = row-found B w T w′ (F B points (row-weights W) (row-sent B K points X) (row-known B w T))

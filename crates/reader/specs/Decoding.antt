@@ -3,22 +3,22 @@
 -- Assumes nothing.
 use mathlib.Core.Path.{_≡_}
 use mathlib.Core.Bool.{true}
-use mathlib.Core.List.{List, [], map}
+use mathlib.Core.List.{List, []}
 use Prim.Native.Nat.{ℕ, zero, suc, _+_, _-_, _*_, _≤_, _<_}
 use lib.ListN.{length, getD, take}
 use Rattle.lists.specs.Each.{Each, Distinct, Byte, occurs}
 use Rattle.lists.specs.Table.{tabulate}
-use Rattle.gf256.specs.Byte.{_⊕_, _⊗_}
+use Rattle.gf256.specs.Byte.{_⊗_}
 use Rattle.gf256.specs.Lanes.{lanes}
 use Rattle.interpolation.specs.Polynomial.{eval, sumTo}
-use Rattle.interpolation.specs.Interpolation.{side, basisTable}
+use Rattle.interpolation.specs.Interpolation.{side, basis}
+use Rattle.interpolation.specs.Opening.{remainder}
 use Rattle.scheme.specs.declared.Scheme.{Scheme}
 use Rattle.scheme.specs.Facts.{SchemeIs}
 use Rattle.scheme.specs.Limits.{maxBlock, maxMessage}
 use Rattle.scheme.specs.Check.{rowsOfCount}
 use Rattle.family.specs.Message.{Bytes}
 use Rattle.staircase.specs.Coefficients.{countOf, origin, coefficientAt}
-use Rattle.columns.specs.Columns.{strided}
 use Rattle.reader.specs.declared.decoding.Sizes.{Sizes}
 
 -- the largest number that places are counted in
@@ -27,22 +27,21 @@ maxUsize = 18446744073709551615
 
 -- ---- 64 blocks side by side
 
--- the coefficients of degree e: the sum, over the first n parties, of the party's weight at that degree times its bytes
-unfoldable pub combined : List (List ℕ) → List (List ℕ) → ℕ → ℕ → List ℕ
-combined rests basis e n = tabulate lanes (λ k. sumTo n (λ a. getD (getD basis a []) e 0 ⊗ getD (getD rests a []) k 0))
+-- the coefficients of degree e: the sum, over the first n of the columns, which stand one after another, of the column's weight at that degree
+-- times its bytes
+unfoldable pub combined : List ℕ → List (List ℕ) → ℕ → ℕ → List ℕ
+combined columns weights e n = tabulate lanes (λ k. sumTo n (λ i. getD (getD weights i []) e 0 ⊗ getD columns (i * lanes + k) 0))
 
--- the columns of a row's known coefficients, those of degrees d to top − 1, as they stand in the work buffer; zeros below d
-pub record KnownColumns (work places : List ℕ) (d top t m : ℕ) (columns : List (List ℕ)) : Type 0 where
-  pub long : length columns ≡ side
-  pub low : (e k : ℕ) → e < d → e < side → getD (getD columns e []) k 0 ≡ 0
-  pub high : (e : ℕ) → d ≤ e → e < top → getD columns e [] ≡ strided work (t * m + getD places e 0) m
+-- the columns from degree d up: a row's known coefficients, those of degrees d to top − 1, as they stand in the work buffer
+pub record KnownColumns (work places : List ℕ) (d top t m : ℕ) (columns : List ℕ) : Type 0 where
+  pub long : length columns ≡ side * lanes
+  pub known : (e k : ℕ) → d ≤ e → e < top → k < lanes → getD columns (e * lanes + k) 0 ≡ getD work (t * m + getD places e 0 + k * m) 0
 
--- the first n parties' bytes from place q of their prefixes on, `many` of them, each with the value at the party's point of the first `high` columns taken off
-pub record Rests (prefixes points : List ℕ) (columns : List (List ℕ)) (high prefix q many n : ℕ) (rests : List (List ℕ)) : Type 0 where
-  pub long : length rests ≡ side
-  pub is : (a k : ℕ) → a < n → k < many
-      → getD (getD rests a []) k 0
-      ≡ getD prefixes (a * prefix + q + k) 0 ⊕ eval (getD points a 0) (map (λ column. getD column k 0) (take high columns))
+-- the first n columns: as many parties' bytes from place q of their prefixes on, `many` of them; the others as they were
+pub record SentColumns (prefixes : List ℕ) (prefix q many n : ℕ) (before columns : List ℕ) : Type 0 where
+  pub long : length columns ≡ side * lanes
+  pub sent : (a k : ℕ) → a < n → k < many → getD columns (a * lanes + k) 0 ≡ getD prefixes (a * prefix + q + k) 0
+  pub still : (i : ℕ) → n * lanes ≤ i → getD columns i 0 ≡ getD before i 0
 
 -- w became w′ by writes of bytes of B alone, among them those at the first n of these places
 pub record WroteFrom (B w w′ : List ℕ) (n : ℕ) (place : ℕ → ℕ) : Type 0 where
@@ -57,13 +56,12 @@ Scattered column at step many n w w′ =
 
 -- ---- one row, of what is read in these sizes
 
--- the sizes are within their limits, and those of the prefixes and of the points
-pub record SizesFit (sizes : Sizes) (points prefixes : List ℕ) : Type 0 where
+-- the sizes are within their limits, and those of the prefixes
+pub record SizesFit (sizes : Sizes) (prefixes : List ℕ) : Type 0 where
   pub z-low : sizes .z ≤ sizes .d
   pub d-high : sizes .d ≤ side
   pub block-high : sizes .block ≤ maxBlock
   pub blocks-high : sizes .blocks ≤ maxMessage
-  pub points-long : length points ≡ sizes .d
   pub prefixes-long : length prefixes ≡ sizes .d * sizes .prefix
 
 -- a row of `top` coefficients, with their places in the block by degree, whose bytes stand from place q on in each prefix
@@ -73,11 +71,13 @@ pub record RowFits (sizes : Sizes) (top q : ℕ) (places : List ℕ) : Type 0 wh
   pub inside : q + sizes .blocks ≤ sizes .prefix
   pub places-low : (e : ℕ) → sizes .z ≤ e → e < top → getD places e 0 < sizes .block
 
--- the basis is that of the points, which are distinct bytes
-pub record BasisOf (points : List ℕ) (basis : List (List ℕ)) : Type 0 where
-  pub is : basis ≡ basisTable points
+-- the weights are those of an opening at d points, which are distinct bytes, for rows of up to `top` coefficients
+pub record WeightsOf (points : List ℕ) (d top : ℕ) (weights : List (List ℕ)) : Type 0 where
+  pub long : length points ≡ d
   pub bytes : Each Byte points
   pub distinct : Distinct points
+  pub parties : (a e : ℕ) → a < d → e < d → getD (getD weights a []) e 0 ≡ getD (basis points a) e 0
+  pub known : (i e : ℕ) → d ≤ i → i < top → e < d → getD (getD weights i []) e 0 ≡ getD (remainder points (i - d)) e 0
 
 -- the row in each block of B: its coefficients from degree z up are B's bytes at their places, and the prefixes have its values
 pub record RowOf (sizes : Sizes) (top q : ℕ) (places points prefixes B : List ℕ) : Type 0 where
@@ -99,10 +99,11 @@ pub record Solved (s n m z d : ℕ) (places B w w′ : List ℕ) : Type 0 where
   pub still : (i : ℕ) → getD w i 0 ≡ getD B i 0 → getD w′ i 0 ≡ getD B i 0
   pub new : HasPlaces s n m z d places B w′
 
--- what a row's loop over the blocks from s to n − 1 does: said for every B that has these prefixes and is known from degree d up
-abbrev pub Solves : Sizes → ℕ → ℕ → List ℕ → List ℕ → List (List ℕ) → List ℕ → ℕ → ℕ → List ℕ → List ℕ → Type 0
-Solves sizes top q places points basis prefixes s n w w′ =
-    (B : List ℕ) → BasisOf points basis → RowOf sizes top q places points prefixes B
+-- what a row's loop over the blocks from s to n − 1 does: said for every B that has these prefixes at points with these weights, and is known from
+-- degree d up
+abbrev pub Solves : Sizes → ℕ → ℕ → List ℕ → List (List ℕ) → List ℕ → ℕ → ℕ → List ℕ → List ℕ → Type 0
+Solves sizes top q places weights prefixes s n w w′ =
+    (B points : List ℕ) → WeightsOf points (sizes .d) top weights → RowOf sizes top q places points prefixes B
     → HasPlaces s n (sizes .block) (sizes .d) top places B w → Solved s n (sizes .block) (sizes .z) (sizes .d) places B w w′
 
 -- ---- all rows, in the scheme s with the counts ds
@@ -124,15 +125,14 @@ rowsBefore s ds (suc g) = sentRows s (getD ds g 0)
 abbrev pub groupBytes : Scheme → List ℕ → ℕ → ℕ → ℕ → ℕ
 groupBytes s ds d blocks g = d * ((rowsBefore s ds (g + 1) - rowsBefore s ds g) * blocks)
 
--- what is read: the scheme is accepted and d is one of its counts, the blocks are not too many, and there are d points and d prefixes
-pub record Input (s : Scheme) (ds : List ℕ) (d blocks : ℕ) (points prefixes : List ℕ) : Type 0 where
+-- what is read: the scheme is accepted and d is one of its counts, the blocks are not too many, and there are d prefixes
+pub record Input (s : Scheme) (ds : List ℕ) (d blocks : ℕ) (prefixes : List ℕ) : Type 0 where
   pub scheme : SchemeIs s (s .n) (s .r) (s .z) ds
   pub count : occurs d ds ≡ true
   pub blocks-high : blocks ≤ maxMessage
-  pub points-long : length points ≡ d
   pub prefixes-long : length prefixes ≡ sentBytes s d blocks
 
--- B are whole blocks and K their keys, of which these are the prefixes
+-- B are whole blocks and K their keys, of which these are the prefixes at these points
 pub record Sent (s : Scheme) (ds : List ℕ) (d blocks : ℕ) (points prefixes B K : List ℕ) : Type 0 where
   pub blocks-are : Bytes (blocks * s .block) B
   pub keys-are : Bytes (blocks * (s .rows * s .z)) K
@@ -140,9 +140,10 @@ pub record Sent (s : Scheme) (ds : List ℕ) (d blocks : ℕ) (points prefixes B
       → getD prefixes (a * (sentRows s d * blocks) + (j * blocks + t)) 0
       ≡ eval (getD points a 0) (tabulate (countOf (s .block) (s .z) ds j) (coefficientAt (s .block) (s .rows) (s .z) ds B K t j))
 
--- said of every B that has these prefixes, if the basis is that of the points
-abbrev pub EachSent : Scheme → List ℕ → ℕ → ℕ → List ℕ → List (List ℕ) → List ℕ → (List ℕ → Type 0) → Type 0
-EachSent s ds d blocks points basis prefixes Says = (B K : List ℕ) → BasisOf points basis → Sent s ds d blocks points prefixes B K → Says B
+-- said of every B that has these prefixes at points with these weights, which are for the largest count
+abbrev pub EachSent : Scheme → List ℕ → ℕ → ℕ → List (List ℕ) → List ℕ → (List ℕ → Type 0) → Type 0
+EachSent s ds d blocks weights prefixes Says =
+    (B K points : List ℕ) → WeightsOf points d (getD ds 0 0) weights → Sent s ds d blocks points prefixes B K → Says B
 
 -- the buffer has B's bytes at all origins of the rows of the groups from g on, as far as d's
 abbrev pub Found : Scheme → List ℕ → ℕ → ℕ → ℕ → List ℕ → List ℕ → Type 0
@@ -151,11 +152,11 @@ Found s ds d blocks g B w =
     → getD w (t * s .block + origin (s .block) (s .z) ds j e) 0 ≡ getD B (t * s .block + origin (s .block) (s .z) ds j e) 0
 
 -- the rows of group g were found, where those of the later groups stood in the buffer
-abbrev pub GroupFound : Scheme → List ℕ → ℕ → ℕ → ℕ → List ℕ → List (List ℕ) → List ℕ → List ℕ → List ℕ → Type 0
-GroupFound s ds d blocks g points basis prefixes w w′ =
-    EachSent s ds d blocks points basis prefixes (λ B. Found s ds d blocks (g + 1) B w → Found s ds d blocks g B w′)
+abbrev pub GroupFound : Scheme → List ℕ → ℕ → ℕ → ℕ → List (List ℕ) → List ℕ → List ℕ → List ℕ → Type 0
+GroupFound s ds d blocks g weights prefixes w w′ =
+    EachSent s ds d blocks weights prefixes (λ B. Found s ds d blocks (g + 1) B w → Found s ds d blocks g B w′)
 
 -- the output became the beginning of what was sent
-abbrev pub OpensTo : Scheme → List ℕ → ℕ → ℕ → List ℕ → List (List ℕ) → List ℕ → List ℕ → List ℕ → Type 0
-OpensTo s ds d blocks points basis prefixes before after =
-    EachSent s ds d blocks points basis prefixes (λ B. after ≡ take (length before) B)
+abbrev pub OpensTo : Scheme → List ℕ → ℕ → ℕ → List (List ℕ) → List ℕ → List ℕ → List ℕ → Type 0
+OpensTo s ds d blocks weights prefixes before after =
+    EachSent s ds d blocks weights prefixes (λ B. after ≡ take (length before) B)

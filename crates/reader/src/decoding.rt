@@ -1,15 +1,16 @@
 // The reader's loops (document 01's opener): from the prefixes of d parties to the whole blocks. Groups
-// from that of d down, their rows rising, 64 blocks side by side. Only the scheme, the lengths, the
-// points and the basis decide a branch or an index.
+// from that of d down, their rows rising, 64 blocks side by side. Only the scheme, the lengths and the
+// weights decide a branch or an index.
 ghost use mathlib.Core.Path.{_≡_};
-ghost use mathlib.Core.Logic.{_⊎_};
-ghost use Prim.Native.Nat.{ℕ, _+_, _-_, _*_, _≤_, _<_};
+ghost use Prim.Native.Nat.{ℕ, _+_, _*_, _≤_, _<_};
 ghost use lib.ListN.{length, getD};
 ghost use Rattle.gf256.specs.Lanes.{lanes};
 ghost use Rattle.interpolation.specs.Interpolation.{side};
 ghost use Rattle.reader.specs.Decoding as decoding;
 ghost use Rattle.reader.specs.Decoding.{Solves};
-use gf256::lanes;
+use crate::combining::combine;
+use crate::copying::copy;
+use columns::FLAT;
 use gf256::lanes::LANES;
 use interpolation::SIDE;
 use scheme::Scheme;
@@ -28,31 +29,8 @@ fn scatter(column: [u8; LANES], at: usize, step: usize, many: usize, work: &mut 
     }
 }
 
-// The row's coefficients of degree e in 64 blocks: the bytes of d parties times the parties' weights at
-// that degree.
-fn combine(
-    rests: &[[u8; LANES]; SIDE],
-    basis: &[[u8; SIDE]; SIDE],
-    d: usize,
-    e: usize,
-) -> [u8; LANES]
-    requires { ⌜ (d ≤ side) × (e < side) ⌝ }
-    ensures { λ r. ⌜ r ≡ decoding.combined (now (rests .entry)) (now (basis .entry)) e d ⌝ }
-{
-    let mut sum = [0u8; LANES];
-    let mut a = 0;
-    while a < d {
-        let weights = basis[a];
-        let part = lanes::scale_each(rests[a], weights[e]);
-        let more = lanes::sum_each(sum, part);
-        sum = more;
-        a += 1;
-    }
-    sum
-}
-
-// The columns of the row's coefficients from degree d up, of which there are `top` in all: they are
-// found already and stand in the work buffer at their places. Zeros below d.
+// Writes the columns of the row's coefficients from degree d up, of which there are `top` in all, to
+// their places in the buffer of columns: they are found already and stand in the work buffer.
 fn known(
     work: &[u8],
     places: &[usize; SIDE],
@@ -60,36 +38,18 @@ fn known(
     top: usize,
     t: usize,
     m: usize,
-) -> [[u8; LANES]; SIDE]
-    requires { ⌜ (d ≤ top) × (top ≤ side) × (t * m + m ≤ decoding.maxUsize) × ((e : ℕ) → d ≤ e → e < top → getD (now places) e 0 < m) ⌝ }
-    ensures { λ r. ⌜ decoding.KnownColumns (now (work .entry)) (now (places .entry)) d top t m r ⌝ }
+    columns: &mut [u8],
+)
+    requires { ⌜ (d ≤ top) × (top ≤ side) × (t * m + m ≤ decoding.maxUsize) × ((e : ℕ) → d ≤ e → e < top → getD (now places) e 0 < m) × (length (now columns) ≡ side * lanes) ⌝ }
+    ensures { λ _. ⌜ decoding.KnownColumns (now (work .entry)) (now (places .entry)) d top t m (now (columns .exit)) ⌝ }
 {
-    let mut known = [[0u8; LANES]; SIDE];
     let mut e = d;
     while e < top {
-        known[e] = columns::gather(work, t * m + places[e], m);
+        let at = e * LANES;
+        let end = at + LANES;
+        columns::gather_into(work, t * m + places[e], m, &mut columns[at..end]);
         e += 1;
     }
-    known
-}
-
-// How many columns the known part has: none in a row of d coefficients.
-fn known_count(d: usize, top: usize) -> usize
-    ensures { λ r. ⌜ ((d < top) × (r ≡ top)) ⊎ ((top ≤ d) × (r ≡ 0)) ⌝ }
-{
-    if d < top {
-        return top;
-    }
-    0
-}
-
-// Loads the bytes of a prefix from place `at` up to `end`, and counts them.
-fn load(prefixes: &[u8], at: usize, end: usize, used: &mut usize) -> [u8; LANES]
-    requires { ⌜ (at ≤ end) × (end ≤ length (now prefixes)) × (end ≤ at + lanes) × (now used + (end - at) ≤ decoding.maxUsize) ⌝ }
-    ensures { λ r. ⌜ (now (used .exit) ≡ now (used .entry) + (end - at)) × ((k : ℕ) → k < end - at → getD r k 0 ≡ getD (now (prefixes .entry)) (at + k) 0) ⌝ }
-{
-    *used += end - at;
-    columns::gather(&prefixes[at..end], 0, 1)
 }
 
 // The sizes of what is read: the keys of a row, the number of parties, the block length, the blocks and
@@ -102,103 +62,110 @@ struct Sizes {
     prefix: usize,
 }
 
-// What is left of the bytes of d parties from place q of their prefixes on, `many` of them, when the
-// values of the known columns at their points are taken off.
-fn rests(
+// Copies bytes of a prefix into a column, and counts them.
+fn load(from: &[u8], used: &mut usize, out: &mut [u8])
+    requires { ⌜ (length (now out) ≡ length (now from)) × (now used + length (now from) ≤ decoding.maxUsize) ⌝ }
+    ensures { λ _. ⌜ (now (used .exit) ≡ now (used .entry) + length (now (from .entry))) × (now (out .exit) ≡ now (from .entry)) ⌝ }
+{
+    *used += from.len();
+    copy(from, out);
+}
+
+// Writes the bytes of d parties from place q of their prefixes on, `many` of them, to the first d
+// columns of the buffer. Those from d up stay: they are the known ones.
+fn load_parties(
     sizes: Sizes,
     prefixes: &[u8],
-    points: &[u8],
-    known: &[[u8; LANES]; SIDE],
-    high: usize,
     q: usize,
     many: usize,
     used: &mut usize,
-) -> [[u8; LANES]; SIDE]
-    requires input { ⌜ decoding.SizesFit sizes (now points) (now prefixes) × (high ≤ side) × (length (now known) ≡ side) ⌝ }
+    columns: &mut [u8],
+)
+    requires input { ⌜ decoding.SizesFit sizes (now prefixes) × (length (now columns) ≡ side * lanes) ⌝ }
     requires batch { ⌜ (many ≤ lanes) × (q + many ≤ sizes .prefix) × (now used + sizes .d * many ≤ decoding.maxUsize) ⌝ }
     ensures counted { λ _. ⌜ now (used .exit) ≡ now (used .entry) + sizes .d * many ⌝ }
-    ensures rests { λ r. ⌜ decoding.Rests (now (prefixes .entry)) (now (points .entry)) (now (known .entry)) high (sizes .prefix) q many (sizes .d) r ⌝ }
+    ensures loaded { λ _. ⌜ decoding.SentColumns (now (prefixes .entry)) (sizes .prefix) q many (sizes .d) (now (columns .entry)) (now (columns .exit)) ⌝ }
 {
     let d = sizes.d;
     let prefix = sizes.prefix;
-    let mut rests = [[0u8; LANES]; SIDE];
     let mut a = 0;
     while a < d {
         let at = a * prefix + q;
-        let bytes = load(prefixes, at, at + many, used);
-        let upper = columns::row_values(known, high, points[a]);
-        rests[a] = lanes::sum_each(bytes, upper);
+        let after = at + many;
+        let from = a * LANES;
+        let end = from + many;
+        load(&prefixes[at..after], used, &mut columns[from..end]);
         a += 1;
     }
-    rests
 }
 
 // One row of the blocks from t on, `many` of them: the coefficients from degree d up are known, and
-// those of degrees z to d - 1 are found and written to their places.
+// those of degrees z to d - 1 are found and written to their places. Each is the sum of the d parties'
+// bytes and of the known coefficients, times their weights.
 fn decode_batch(
     sizes: Sizes,
     prefixes: &[u8],
-    points: &[u8],
-    basis: &[[u8; SIDE]; SIDE],
+    weights: &[[u8; SIDE]; SIDE],
     places: &[usize; SIDE],
     top: usize,
     q: usize,
     t: usize,
     many: usize,
     used: &mut usize,
+    columns: &mut [u8],
     work: &mut [u8],
 )
-    requires input { ⌜ decoding.SizesFit sizes (now points) (now prefixes) × decoding.RowFits sizes top q (now places) × (length (now work) ≡ sizes .blocks * sizes .block) ⌝ }
+    requires input { ⌜ decoding.SizesFit sizes (now prefixes) × decoding.RowFits sizes top q (now places) × (length (now columns) ≡ side * lanes) × (length (now work) ≡ sizes .blocks * sizes .block) ⌝ }
     requires batch { ⌜ (many ≤ lanes) × (t + many ≤ sizes .blocks) × (now used + sizes .d * many ≤ decoding.maxUsize) ⌝ }
     ensures counted { λ _. ⌜ now (used .exit) ≡ now (used .entry) + sizes .d * many ⌝ }
-    ensures solved { λ _. ⌜ Solves sizes top q (now (places .entry)) (now (points .entry)) (now (basis .entry)) (now (prefixes .entry)) t (t + many) (now (work .entry)) (now (work .exit)) ⌝ }
+    ensures solved { λ _. ⌜ Solves sizes top q (now (places .entry)) (now (weights .entry)) (now (prefixes .entry)) t (t + many) (now (work .entry)) (now (work .exit)) ⌝ }
 {
     let z = sizes.z;
     let d = sizes.d;
     let m = sizes.block;
-    let known = known(work, places, d, top, t, m);
-    let high = known_count(d, top);
-    let rests = rests(sizes, prefixes, points, &known, high, q + t, many, used);
+    known(work, places, d, top, t, m, columns);
+    load_parties(sizes, prefixes, q + t, many, used, columns);
     let mut e = z;
     while e < d {
-        let column = combine(&rests, basis, d, e);
+        let column = combine(columns, weights, top, e);
         scatter(column, t * m + places[e], m, many, work);
         e += 1;
     }
 }
 
-// One row of all blocks.
+// One row of all blocks. The buffer of columns is made once: to clear it for each batch would take a
+// twelfth of the time.
 fn decode_row(
     sizes: Sizes,
     prefixes: &[u8],
-    points: &[u8],
-    basis: [[u8; SIDE]; SIDE],
+    weights: [[u8; SIDE]; SIDE],
     places: &[usize; SIDE],
     top: usize,
     q: usize,
     used: &mut usize,
     work: &mut [u8],
 )
-    requires input { ⌜ decoding.SizesFit sizes (now points) (now prefixes) × decoding.RowFits sizes top q (now places) × (length (now work) ≡ sizes .blocks * sizes .block) ⌝ }
+    requires input { ⌜ decoding.SizesFit sizes (now prefixes) × decoding.RowFits sizes top q (now places) × (length (now work) ≡ sizes .blocks * sizes .block) ⌝ }
     requires counter { ⌜ now used + sizes .d * sizes .blocks ≤ decoding.maxUsize ⌝ }
     ensures counted { λ _. ⌜ now (used .exit) ≡ now (used .entry) + sizes .d * sizes .blocks ⌝ }
-    ensures solved { λ _. ⌜ Solves sizes top q (now (places .entry)) (now (points .entry)) basis (now (prefixes .entry)) 0 (sizes .blocks) (now (work .entry)) (now (work .exit)) ⌝ }
+    ensures solved { λ _. ⌜ Solves sizes top q (now (places .entry)) weights (now (prefixes .entry)) 0 (sizes .blocks) (now (work .entry)) (now (work .exit)) ⌝ }
 {
     let blocks = sizes.blocks;
+    let mut columns = [0u8; FLAT];
     let mut t = 0;
     while t < blocks {
         let many = columns::batch_of(blocks - t);
         decode_batch(
             sizes,
             prefixes,
-            points,
-            &basis,
+            &weights,
             places,
             top,
             q,
             t,
             many,
             used,
+            &mut columns,
             work,
         );
         t += many;
@@ -224,16 +191,15 @@ fn decode_group(
     d: usize,
     blocks: usize,
     g: usize,
-    points: &[u8],
-    basis: [[u8; SIDE]; SIDE],
+    weights: [[u8; SIDE]; SIDE],
     prefixes: &[u8],
     used: &mut usize,
     work: &mut [u8],
 )
-    requires input { ⌜ decoding.Input s (now counts) d blocks (now points) (now prefixes) × (length (now work) ≡ blocks * s .block) ⌝ }
+    requires input { ⌜ decoding.Input s (now counts) d blocks (now prefixes) × (length (now work) ≡ blocks * s .block) ⌝ }
     requires group { ⌜ (g < length (now counts)) × (d ≤ getD (now counts) g 0) × (now used + decoding.groupBytes s (now counts) d blocks g ≤ decoding.maxUsize) ⌝ }
     ensures counted { λ _. ⌜ now (used .exit) ≡ now (used .entry) + decoding.groupBytes s (now (counts .entry)) d blocks g ⌝ }
-    ensures found { λ _. ⌜ decoding.GroupFound s (now (counts .entry)) d blocks g (now (points .entry)) basis (now (prefixes .entry)) (now (work .entry)) (now (work .exit)) ⌝ }
+    ensures found { λ _. ⌜ decoding.GroupFound s (now (counts .entry)) d blocks g weights (now (prefixes .entry)) (now (work .entry)) (now (work .exit)) ⌝ }
 {
     let sizes = Sizes {
         z: s.z as usize,
@@ -242,13 +208,13 @@ fn decode_group(
         blocks,
         prefix: scheme::rows_of_count(s.block, s.z, d) * blocks,
     };
-    let top = counts[g] as usize;
     let end = rows_before(s, counts, g + 1);
     let mut j = rows_before(s, counts, g);
     while j < end {
-        let places = rows::row_origins(s.block, s.z, counts, j);
+        let mut places = [0usize; SIDE];
+        let top = rows::row_origins(s.block, s.z, counts, j, &mut places);
         let q = j * blocks;
-        decode_row(sizes, prefixes, points, basis, &places, top, q, used, work);
+        decode_row(sizes, prefixes, weights, &places, top, q, used, work);
         j += 1;
     }
 }
@@ -260,14 +226,13 @@ pub(crate) fn decode(
     counts: &[u8],
     d: usize,
     blocks: usize,
-    points: &[u8],
-    basis: [[u8; SIDE]; SIDE],
+    weights: [[u8; SIDE]; SIDE],
     prefixes: &[u8],
     work: &mut [u8],
 ) -> usize
-    requires { ⌜ decoding.Input s (now counts) d blocks (now points) (now prefixes) × (length (now work) ≡ blocks * s .block) ⌝ }
+    requires { ⌜ decoding.Input s (now counts) d blocks (now prefixes) × (length (now work) ≡ blocks * s .block) ⌝ }
     ensures counted { λ used. ⌜ used ≡ decoding.sentBytes s d blocks ⌝ }
-    ensures decoded { λ _. ⌜ decoding.EachSent s (now (counts .entry)) d blocks (now (points .entry)) basis (now (prefixes .entry)) (λ B. now (work .exit) ≡ B) ⌝ }
+    ensures decoded { λ _. ⌜ decoding.EachSent s (now (counts .entry)) d blocks weights (now (prefixes .entry)) (λ B. now (work .exit) ≡ B) ⌝ }
 {
     let sent = scheme::rows_of_count(s.block, s.z, d);
     let mut used = 0;
@@ -276,18 +241,7 @@ pub(crate) fn decode(
     let mut g = rows::group_of(s.block, s.z, counts, sent - 1) + 1;
     while 0 < g {
         g -= 1;
-        decode_group(
-            s,
-            counts,
-            d,
-            blocks,
-            g,
-            points,
-            basis,
-            prefixes,
-            &mut used,
-            work,
-        );
+        decode_group(s, counts, d, blocks, g, weights, prefixes, &mut used, work);
     }
     used
 }

@@ -1,16 +1,14 @@
 -- `reader::decoding::decode_batch` meets its contract. The invariant: the degrees from z to e - 1 are solved, for every B that has these columns. That the
 -- columns are those of B is `batch-step`. The measure is what is left of the degrees.
 -- Assumes nothing.
-use mathlib.Core.Path.{_≡_, refl, ap, _∙_, subst}
+use mathlib.Core.Path.{_≡_, refl, sym, ap, _∙_, subst}
 use mathlib.Core.List.{List}
-use mathlib.Core.Logic.{_⊎_, ⊎-elim}
-use Prim.Native.Nat.{ℕ, _+_, _-_, _*_, _≤_, _<_, zero-le}
+use Prim.Native.Nat.{ℕ, _+_, _-_, _*_, _≤_, _<_}
 use native.Mathlib.Nat.{le-refl, mul-le-mul}
 use native.Mathlib.Omega.{arith}
 use lib.ListN.{length, getD}
 use borrow.Author.Needs.{needs}
 use Rattle.lists.proofs.Joined.{row-room, place-on}
-use Rattle.interpolation.specs.Interpolation.{side}
 use Rattle.scheme.specs.Limits.{maxBlock, maxMessage}
 use Rattle.reader.specs.Decoding.{combined, Solved}
 use Rattle.reader.proofs.Writes.{solved-none, solved-degree}
@@ -19,20 +17,16 @@ use Rattle.reader.proofs.decoding.decode_batch.Statement.{statement}
 use Rattle.reader.proofs.decoding.decode_batch.Tie as tie
 
 abbrev Inv-loop : tie.InvT-loop
-Inv-loop prefixes points basis places top q t many used work₀ z d m high rests e₀ work e =
+Inv-loop prefixes weights places top q t many used columns work₀ z d m e₀ work e =
     (z ≤ e) × (e ≤ d) × (length work ≡ length work₀)
-    × ((B : List ℕ) → ((f k : ℕ) → z ≤ f → f < d → k < many → getD (combined rests basis f d) k 0 ≡ getD B (t * m + getD places f 0 + k * m) 0)
+    × ((B : List ℕ) → ((f k : ℕ) → z ≤ f → f < d → k < many → getD (combined columns weights f top) k 0 ≡ getD B (t * m + getD places f 0 + k * m) 0)
     → Solved t (t + many) m z e places B work₀ work)
 
 abbrev μ-loop : tie.MeasureT-loop
-μ-loop prefixes points basis places top q t many used work₀ z d m high rests e₀ work e = d - e
+μ-loop prefixes weights places top q t many used columns work₀ z d m e₀ work e = d - e
 
-abbrev start : tie.After-rests Inv-loop μ-loop → tie.Start Inv-loop μ-loop
-start c = c .before .before .before .before .before .before .before .before .before
-
--- the known part has at most 16 columns
-few : (d top high : ℕ) → top ≤ side → ((d < top) × (high ≡ top)) ⊎ ((top ≤ d) × (high ≡ 0)) → high ≤ side
-few d top high h = ⊎-elim (λ (k : (d < top) × (high ≡ top)). rw (k .1) h) (λ (k : (top ≤ d) × (high ≡ 0)). rw (k .1) zero-le)
+abbrev start : tie.After-slice-known4 Inv-loop μ-loop → tie.Start Inv-loop μ-loop
+start c = c .before .before .before .before .before .before .before .before .before .before .before .before .before
 
 small : (s : tie.Start Inv-loop μ-loop) → s .args .t * s .args .sizes .block ≤ maxMessage * maxBlock
 small s =
@@ -60,7 +54,7 @@ room c k h =
       place-on (s .args .t) k (getD (s .args .places .now) (c .before .loop .e) 0) (p .block),
       row-room (s .args .t + k) (p .blocks) (p .block) (omega (arith, s .pre .1 .1)),
       near c,
-      s .pre .0 .2,
+      s .pre .0 .3,
       c .before .loop .inv .2,
     )
 
@@ -69,28 +63,32 @@ decode-batch-spec =
     tie.close
     (tie.spec Inv-loop μ-loop
     (λ c κs.
-    let s = c .before .before .before .before in
-    (s .pre .0 .1 .top-low, s .pre .0 .1 .top-high, omega (arith, small s, s .pre .0 .0 .block-high), λ e a b. s .pre .0 .1 .places-low e (omega (arith, s .pre .0 .0 .z-low)) b))
-    (λ c κs. search needs)
+    let s = c .before .before .before .before .before in (
+      s .pre .0 .1 .top-low,
+      s .pre .0 .1 .top-high,
+      omega (arith, small s, s .pre .0 .0 .block-high),
+      (λ e a b. s .pre .0 .1 .places-low e (omega (arith, s .pre .0 .0 .z-low)) b),
+      s .pre .0 .2,
+    ))
     (λ c.
-    let s = c .before .before .before .before .before .before .before in
+    let s = c .before .before .before .before .before .before .before .before in
     omega (arith, s .pre .0 .1 .inside, s .pre .1 .1))
     (λ c κs.
-    let s = c .before .before .before .before .before .before .before .before in
-    let a = s .args in (
-      (
-        s .pre .0 .0,
-        few (a .sizes .d) (a .top) (c .before .before .known-count .result) (s .pre .0 .1 .top-high) (c .before .before .known-count .ensures),
-        c .before .before .before .known .ensures .long,
-      ),
-      (s .pre .1 .0, omega (arith, s .pre .1 .1, s .pre .0 .1 .inside), s .pre .1 .2),
-    ))
+    let k = c .before .before .before .before in
+    let s = k .before .before .before .before .before .before in
+    ((s .pre .0 .0, k .known .ensures .long), (omega (arith, s .pre .1 .0), omega (arith, s .pre .1 .1, s .pre .0 .1 .inside), s .pre .1 .2)))
     (λ c. (le-refl _, start c .pre .0 .0 .z-low, refl, λ B h. solved-none _ _ _ _ _ B _))
-    (λ c κs. search needs)
+    (λ c κs.
+    let i = c .before in
+    let r = i .before .before in
+    let s = start r in
+    (r .before .before .load-parties .ensures .1 .long, omega (arith, s .pre .0 .1 .top-high), omega (arith, i .loop-test .taken, s .pre .0 .0 .d-high)))
     (λ c. omega (arith, small (start (c .before .before .before .before))))
     (λ c. search needs)
     (λ c. search needs)
-    (λ c. omega (arith, small (start (c .before .before .before .before .before)), near (c .before .before .before)))
+    (λ c.
+    let s = start (c .before .before .before .before .before) in
+    omega (arith, small s, near (c .before .before .before), s .pre .0 .0 .block-high))
     (λ c κs.
     let i = c .before .before .before .before in
     let s = start (i .before .before) in
@@ -114,6 +112,9 @@ decode-batch-spec =
           (a .scatter .ensures B
           (λ k hk. ap (λ (r : List ℕ). getD r k 0) (w .combine .ensures) ∙ h (l .e) k (l .inv .0) (i .loop-test .taken) hk)),
     ))
+    (λ c.
+    let r = c .before .before in
+    r .before .before .load-parties .ensures .1 .long ∙ sym (start r .pre .0 .2))
     (λ c. c .before .loop .inv .2)
     (λ c.
     let l = c .before .loop in
@@ -121,12 +122,12 @@ decode-batch-spec =
     let s = start r in
     let a = s .args in
     let p = a .sizes in
-    let k = r .before .before in
-    let whole : l .e ≡ p .d = omega arith in (
-      r .rests .ensures .0,
-      λ B I R H.
+    let g = r .before .before in
+    let whole : l .e ≡ p .d = omega (arith, l .inv .1, c .loop-test .left) in (
+      g .load-parties .ensures .0,
+      λ B points W R H.
           subst (λ (x : ℕ). Solved (a .t) (a .t + a .many) (p .block) (p .z) x (a .places .now) B (a .work .now) (l .work)) whole
           (l .inv .3 B
-          (batch-step (s .pre .0 .0) (s .pre .0 .1) (s .pre .1 .0) (s .pre .1 .1) (k .before .before .known .ensures) (k .before .known-count .ensures)
-          (r .rests .ensures .1) I R H)),
+          (batch-step (s .pre .0 .0) (s .pre .0 .1) (s .pre .1 .0) (s .pre .1 .1) (g .before .before .before .before .before .known .ensures)
+          (g .load-parties .ensures .1) W R H)),
     )))

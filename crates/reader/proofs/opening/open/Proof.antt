@@ -1,65 +1,94 @@
--- `reader::opening::open` meets its contract: the parties are at most 16, the blocks of the longest message fit in the work buffer, and the
--- opened blocks have these prefixes, by proofs/Reading.antt.
+-- `reader::opening::open` meets its contract: the parties are at most 16, the blocks fit in the buffer that is taken, the small or the large one, and
+-- the opened blocks have these prefixes, by proofs/Reading.antt.
 -- Assumes nothing.
-use mathlib.Core.Path.{sym}
-use Prim.Native.Nat.{_≤_}
+use mathlib.Core.Path.{_≡_, sym}
+use mathlib.Core.List.{List}
+use Prim.Native.Nat.{ℕ, _+_, _*_, _≤_}
 use native.Mathlib.Omega.{arith}
-use lib.ListN.{length}
+use lib.ListN.{length, take, length-replicate}
 use lib.Seq.{length-take-le}
 use borrow.Author.Needs.{needs}
 use Rattle.lists.specs.Each.{Byte}
 use Rattle.lists.proofs.Each.{each-of}
 use Rattle.interpolation.specs.Interpolation.{side}
-use Rattle.staircase.specs.Parameters.{parameters}
+use Rattle.scheme.specs.Limits.{maxBlock, maxMessage}
+use Rattle.staircase.specs.Parameters.{Parameters, parameters}
+use Rattle.staircase.specs.Exactness.{openedString}
 use Rattle.staircase.proofs.Sizes.{count-most, blocks-few}
 use Rattle.rows.proofs.Points.{points-are}
+use Rattle.reader.specs.Decoding.{Input, EachSent}
+use Rattle.reader.proofs.LaterRows.{A}
 use Rattle.reader.proofs.OpenerAnswers.{covers, fits-buffer}
 use Rattle.reader.proofs.Reading.{begins}
 use Rattle.reader.proofs.opening.open.Statement.{statement}
 use Rattle.reader.proofs.opening.open.Tie as tie
 
--- there are at most 16 parties
-few-of : (c : tie.After-slice-known) → length (c .before .before .before .before .args .parties .now) ≤ side
-few-of c =
-    let s = c .before .before .before .before in
-    count-most (parameters (s .args .s .n) (s .args .s .r) (s .args .s .z) (s .args .counts .now)) (s .pre .0 .0 .passed) (length (s .args .parties .now)) (s .pre .0 .1)
+module _ (c : tie.After-slice-known) where
+  abbrev st : tie.Start
+  st = c .before .before .before .before
+
+  abbrev p : Parameters
+  p = parameters (st .args .s .n) (st .args .s .r) (st .args .s .z) (st .args .counts .now)
+
+  -- there are at most 16 parties
+  few : length (st .args .parties .now) ≤ side
+  few = count-most p (st .pre .0 .0 .passed) (length (st .args .parties .now)) (st .pre .0 .1)
+
+  input : Input (st .args .s) (st .args .counts .now) (length (st .args .parties .now)) (st .args .blocks) (st .args .prefixes .now)
+  input =
+      record {
+        scheme = st .pre .0 .0;
+        count = st .pre .0 .1;
+        blocks-high = blocks-few p (st .args .s) (st .pre .0 .0) _ (st .args .blocks) (st .pre .1 .1) (st .pre .1 .0);
+        prefixes-long = st .pre .1 .2;
+      }
+
+  -- the blocks fit in the large buffer, and hold the message
+  fits : st .args .blocks * st .args .s .block ≤ maxMessage + maxBlock
+  fits = fits-buffer p (st .args .s) (st .pre .0 .0) _ (st .args .blocks) (st .pre .1 .1) (st .pre .1 .0)
+
+  covered : length (st .args .out .now) ≤ st .args .blocks * st .args .s .block
+  covered = covers p (st .args .s) (st .pre .0 .0) _ (st .args .blocks) (st .pre .1 .1) (st .pre .1 .0)
+
+-- what is said of the blocks that were sent, with these weights, holds of the opened ones
+opened : (c : tie.After-opening-weights) (out : List ℕ)
+    → let k = c .before .before .before .before in
+    let a = st k .args in
+    EachSent (a .s) (a .counts .now) (length (a .parties .now)) (a .blocks) (c .opening-weights .result) (a .prefixes .now) (λ B. out ≡ take (length (a .out .now)) B)
+    → out ≡ take (length (a .out .now)) (openedString (p k) (a .parties .now) (a .blocks) (a .prefixes .now))
+opened c out E =
+    let o = c .before .before .before in
+    let k = o .before in
+    let s = st k in
+    let a = s .args in
+    let bytes = each-of Byte (a .prefixes .now) 0 (λ i l. k .before .shared-slice-known3 .given i .fits) in
+    begins (a .s) _ (s .pre .0 .0) (a .parties .now) (s .pre .0 .1) (s .pre .0 .2) (a .blocks) (a .prefixes .now) (s .pre .1 .2) bytes _ _ (points-are _ _ _ (o .points-of .ensures _) (few k)) (c .opening-weights .ensures) (length (a .out .now)) out E
 
 pub open-spec : {M : Type 1} → statement M
 open-spec =
     tie.close
     (tie.spec
     (λ c κs. search needs)
-    (λ c. omega (arith, few-of (c .before)))
-    (λ c. sym (length-take-le _ (c .before .points-of .result) (omega (arith, few-of (c .before .before)))))
+    (λ c. omega (arith, few (c .before)))
+    (λ c. sym (length-take-le _ (c .before .points-of .result) (omega (arith, few (c .before .before)))))
+    (λ c. omega (arith, A (input (c .before .before .before)) .some))
+    (λ c. omega (arith, c .shared-slice-known4 .given 0))
     (λ c κs. search needs)
-    (λ c. omega (arith, few-of (c .before .before .before)))
-    (λ c. sym (length-take-le _ (c .before .before .before .points-of .result) (omega (arith, few-of (c .before .before .before .before)))))
+    (λ c. omega (arith, fits (c .before .before .before .before .before)))
     (λ c. search needs)
     (λ c κs.
-    let o = c .before .before .before .before .before in
-    let s = o .before .before .before .before .before in
-    let h = s .pre in
-    let p = parameters (s .args .s .n) (s .args .s .r) (s .args .s .z) (s .args .counts .now) in (
-      record {
-        scheme = h .0 .0;
-        count = h .0 .1;
-        blocks-high = blocks-few p (s .args .s) (h .0 .0) _ (s .args .blocks) (h .1 .1) (h .1 .0);
-        points-long = length-take-le _ (o .points-of .result) (omega (arith, few-of (o .before)));
-        prefixes-long = h .1 .2;
-      },
-      fits-buffer p (s .args .s) (h .0 .0) _ (s .args .blocks) (h .1 .1) (h .1 .0),
-      covers p (s .args .s) (h .0 .0) _ (s .args .blocks) (h .1 .1) (h .1 .0),
-    ))
+    let i = c .before .before in
+    let k = i .before .before .before .before .before .before in
+    (input k, omega (arith, i .if1 .taken, length-replicate {A = ℕ} 2048 0), covered k))
     (λ c. search needs)
     (λ c.
     let f = c .before .before .before in
-    let b = f .before .before .before .before in
-    let o = b .before .before in
-    let s = o .before .before .before .before .before in
-    let a = s .args in
-    let h = s .pre in
-    let bytes = each-of Byte (a .prefixes .now) 0 (λ i l. o .before .before .shared-slice-known3 .given i .fits) in (
-      f .open-into .ensures .0,
-      begins (a .s) _ (h .0 .0) (a .parties .now) (h .0 .1) (h .0 .2) (a .blocks) (a .prefixes .now) (h .1 .2) bytes _ _ (points-are _ _ _ (o .points-of .ensures _) (few-of (o .before))) (b .basis .ensures) (length (a .out .now)) _
-          (f .open-into .ensures .1),
-    )))
+    (f .open-into .ensures .0, opened (f .before .before .before .before .before) _ (f .open-into .ensures .1)))
+    (λ c. search needs)
+    (λ c κs.
+    let k = c .before .before .before .before .before .before .before .before in
+    (input k, omega (arith, fits k, length-replicate {A = ℕ} (maxMessage + maxBlock) 0), covered k))
+    (λ c. search needs)
+    (λ c.
+    let f = c .before .before .before in
+    (f .open-into2 .ensures .0, opened (f .before .before .before .before .before) _ (f .open-into2 .ensures .1))))

@@ -16,10 +16,10 @@ cut y rest B out n e h same = e ∙ take-append-le n y rest (rw same h) ∙ ap (
 
 -- the part that is lent has the blocks' bytes
 part-long : (c : tie.After-decode-arg)
-    → let a = c .before .before .before .before .before .before .before .args in
+    → let a = c .before .before .before .before .before .before .args in
     length (take (a .blocks * a .s .block) (a .work .now)) ≡ a .blocks * a .s .block
 part-long c =
-    let s = c .before .before .before .before .before .before .before in
+    let s = c .before .before .before .before .before .before in
     length-take-le _ (s .args .work .now) (s .pre .1)
 
 pub open-into-spec : {M : Type 1} → statement M
@@ -30,7 +30,7 @@ open-into-spec =
     (λ c. search needs)
     (λ c. sym (part-long c))
     (λ c κs.
-    let h = c .before .before .before .before .before .before .before .pre in
+    let h = c .before .before .before .before .before .before .pre in
     (h .0, part-long c))
     (λ c κs. search needs)
     (λ c. search needs)
@@ -38,5 +38,5 @@ open-into-spec =
     (λ c.
     let f = c .before .before in
     let d = f .before .before .before .before .before in
-    let s = d .before .before .before .before .before .before .before .before in
-    (d .decode .ensures .0, λ B K I X. cut _ _ B _ (length (s .args .out .now)) (f .copy .ensures) (rw (X .blocks-are .0) (s .pre .2)) (d .decode .ensures .1 B K I X))))
+    let s = d .before .before .before .before .before .before .before in
+    (d .decode .ensures .0, λ B K points W X. cut _ _ B _ (length (s .args .out .now)) (f .copy .ensures) (rw (X .blocks-are .0) (s .pre .2)) (d .decode .ensures .1 B K points W X))))
