@@ -1,73 +1,25 @@
-//! Message bytes a second of splitting and of reconstructing: the proved library, an obvious program with tables, and
-//! libgfshare where it is installed. All take turns in one process, and of each the best and the median turn are shown.
+//! What splitting and reconstructing cost: the proved library, an obvious program with tables, and libgfshare where it is
+//! installed. All take turns in one process.
 
 use gilunavoi::cases::{parties, Call, Scheme};
 use gilunavoi::limits::MAX_MESSAGE;
 use gilunavoi::random::Random;
 use gilunavoi::{library, reference};
+use measure::{Program, Task, TURNS};
 use std::cell::RefCell;
 use std::hint::black_box;
 use std::rc::Rc;
-use std::time::Instant;
 use tables::Tables;
 
 #[cfg(gfshare)]
 #[path = "speed/gfshare.rs"]
 mod gfshare;
+#[path = "speed/growth.rs"]
+mod growth;
+#[path = "speed/measure.rs"]
+mod measure;
 #[path = "speed/tables.rs"]
 mod tables;
-
-const TURNS: usize = 400;
-const SECONDS_A_TURN: f64 = 0.0003;
-
-/// One program at one task: a message of so many bytes, handled so many times a turn, and the speeds of the turns.
-struct Program {
-    bytes: usize,
-    calls: usize,
-    run: Box<dyn FnMut()>,
-    speeds: Vec<f64>,
-}
-
-impl Program {
-    fn new(bytes: usize, run: impl FnMut() + 'static) -> Program {
-        let mut program = Program { bytes, calls: 1, run: Box::new(run), speeds: Vec::new() };
-        while program.seconds() < SECONDS_A_TURN {
-            program.calls *= 2;
-        }
-        program
-    }
-
-    fn seconds(&mut self) -> f64 {
-        let start = Instant::now();
-        for _ in 0..self.calls {
-            (self.run)();
-        }
-        start.elapsed().as_secs_f64()
-    }
-
-    fn turn(&mut self) {
-        let seconds = self.seconds();
-        self.speeds.push((self.bytes * self.calls) as f64 / seconds / 1e6);
-    }
-
-    fn best_and_median(&mut self) -> String {
-        self.speeds.sort_by(f64::total_cmp);
-        format!("{:5.0} {:5.0}", self.speeds[self.speeds.len() - 1], self.speeds[self.speeds.len() / 2])
-    }
-}
-
-/// A line of the table: a task and the programs that do it.
-struct Task {
-    name: String,
-    programs: Vec<Program>,
-}
-
-impl Task {
-    fn print(&mut self) {
-        let speeds: Vec<String> = self.programs.iter_mut().map(Program::best_and_median).collect();
-        println!("{:64} {}", self.name, speeds.join("   "));
-    }
-}
 
 /// A message, its keys and its shares. Both programs are held to the same shares.
 struct Split {
@@ -147,18 +99,25 @@ impl Reconstruct {
     }
 }
 
-fn tasks(random: &mut Random, s: &Scheme, length: usize) -> Vec<Task> {
-    let about = format!("n {}, r {}, z {}, counts {:?}, {length} bytes", s.n, s.r, s.z, s.counts);
+/// Splitting, and reconstructing for each count. `matched` are libgfshare's lines for a message of this length.
+fn tasks(random: &mut Random, s: &Scheme, length: usize, matched: Option<[usize; 2]>) -> Vec<Task> {
     let split = Split::new(random, s, length);
     let (a, b) = (split.clone(), split.clone());
-    let programs = vec![Program::new(length, move || a.by_the_library()), Program::new(length, move || b.by_tables())];
-    let mut tasks = vec![Task { name: format!("{about}: split"), programs }];
+    let mut tasks = vec![Task {
+        name: format!("n {}, r {}, z {}, counts {:?}, {length} bytes: split", s.n, s.r, s.z, s.counts),
+        program: Program::new(length, move || a.by_the_library()),
+        tables: Some(Program::new(length, move || b.by_tables())),
+        matched: matched.map(|lines| lines[0]),
+    }];
     for &d in &s.counts {
         let a = Reconstruct::new(random, &split, d);
         let b = a.clone();
-        let (a, b) = (Program::new(length, move || a.by_the_library()), Program::new(length, move || b.by_tables()));
-        let programs = vec![a, b];
-        tasks.push(Task { name: format!("    reconstruct, {d} readers"), programs });
+        tasks.push(Task {
+            name: format!("    reconstruct, {d} readers"),
+            program: Program::new(length, move || a.by_the_library()),
+            tables: Some(Program::new(length, move || b.by_tables())),
+            matched: matched.map(|lines| lines[1]),
+        });
     }
     tasks
 }
@@ -170,11 +129,10 @@ fn tasks_of_gfshare(random: &mut Random, length: usize) -> Vec<Task> {
     a.borrow_mut().reconstruct();
     assert!(a.borrow().secret == a.borrow().opened, "the secret comes back");
     let b = a.clone();
-    let split = vec![Program::new(length, move || a.borrow_mut().split())];
-    let reconstruct = vec![Program::new(length, move || b.borrow_mut().reconstruct())];
+    let line = |name: String, program| Task { name, program, tables: None, matched: None };
     vec![
-        Task { name: format!("libgfshare, any 3 of 5, {length} bytes: split"), programs: split },
-        Task { name: "    reconstruct".into(), programs: reconstruct },
+        line(format!("libgfshare, any 3 of 5, {length} bytes: split"), Program::new(length, move || a.borrow_mut().split())),
+        line("    reconstruct".into(), Program::new(length, move || b.borrow_mut().reconstruct())),
     ]
 }
 
@@ -183,21 +141,37 @@ fn tasks_of_gfshare(_: &mut Random, _: usize) -> Vec<Task> {
     Vec::new()
 }
 
+/// The default scheme, two of 7 and 10 parties, one of 16, and one with the longest block, of 840 bytes.
+fn schemes() -> Vec<Scheme> {
+    let nine = (3..10).rev().collect();
+    let others = [(7, 4, 1, vec![7, 4, 3]), (10, 4, 2, vec![10, 8, 6]), (16, 8, 2, vec![16, 9, 8]), (9, 6, 1, nine)];
+    let others = others.map(|(n, r, z, counts)| Scheme::new(n, r, z, counts).expect("an accepted scheme"));
+    [&[Scheme::default()], &others[..]].concat()
+}
+
 fn main() {
     let mut random = Random::new(1);
-    let others = [(7, 4, 1, [7, 4, 3]), (10, 4, 2, [10, 8, 6])];
-    let others = others.map(|(n, r, z, counts)| Scheme::new(n, r, z, counts.to_vec()).expect("an accepted scheme"));
-    let schemes = [&[Scheme::default()], &others[..]].concat();
-    let mut all = Vec::new();
-    for length in [1 << 10, MAX_MESSAGE] {
-        for scheme in &schemes {
-            all.extend(tasks(&mut random, scheme, length));
-        }
+    let mut all: Vec<Task> = Vec::new();
+    for length in [1, 100, 1 << 10, MAX_MESSAGE] {
+        let first = all.len();
         all.extend(tasks_of_gfshare(&mut random, length));
+        let matched = (first < all.len()).then_some([first, first + 1]);
+        for scheme in schemes() {
+            // libgfshare: any 3 of 5 open, 2 learn nothing, a share is as long as the message. The default scheme is the
+            // likest: z 1, shares half as long. Its one opening, from 3, is compared with ours from 5, 4 and 3.
+            let matched = matched.filter(|_| scheme.is_default());
+            all.extend(tasks(&mut random, &scheme, length, matched));
+        }
     }
+    let mut series = growth::series(&mut random);
     for _ in 0..TURNS {
-        all.iter_mut().flat_map(|task| &mut task.programs).for_each(Program::turn);
+        all.iter_mut().for_each(Task::turn);
+        series.iter_mut().for_each(growth::Series::turn);
     }
-    println!("message MB a second, best and median; the proved library or libgfshare, then the program with tables");
-    all.iter_mut().for_each(Task::print);
+    println!("microseconds a call, best and median turn; message MB a second in the best turn, and of the program with tables,");
+    println!("which has worked out beforehand what depends on the scheme and the readers alone; times faster than libgfshare");
+    println!("{:66} {:>9} {:>9} {:>7} {:>7} {:>7}", "", "us: best", "median", "MB/s", "tables", "gfshare");
+    all.iter().for_each(|task| println!("{}", task.line(&all)));
+    println!("\nhow the cost grows, microseconds a call, best turns: split / reconstruct for the lowest count");
+    series.iter().for_each(|series| println!("{}", series.line()));
 }

@@ -15,6 +15,7 @@ extern "C" {
     fn gfshare_ctx_dec_extract(context: *mut c_void, secret: *mut c_uchar);
 }
 
+// One string of keys for all contexts: the longest that was given, since the library's hook names no context.
 thread_local! {
     static KEYS: RefCell<Vec<u8>> = const { RefCell::new(Vec::new()) };
 }
@@ -40,7 +41,11 @@ impl Gfshare {
     pub fn new(secret: Vec<u8>, keys: Vec<u8>) -> Gfshare {
         let size = secret.len();
         assert!(keys.len() >= 2 * size);
-        KEYS.set(keys);
+        KEYS.with_borrow_mut(|all| {
+            if all.len() < keys.len() {
+                *all = keys;
+            }
+        });
         let mut numbers = [1, 2, 3, 4, 5];
         unsafe {
             gfshare_fill_rand = Some(fill);
