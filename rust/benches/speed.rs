@@ -168,8 +168,9 @@ fn main() {
         all.iter_mut().for_each(Task::turn);
         series.iter_mut().for_each(growth::Series::turn);
     }
-    println!("microseconds a call, best and median turn; message MB a second in the best turn, and of the program with tables,");
-    println!("which has worked out beforehand what depends on the scheme and the readers alone; times faster than libgfshare");
+    println!("microseconds a call, best and median turn; message MB a second in the best turn, and of the program with");
+    println!("tables, which has worked out beforehand what depends on the scheme and the readers alone; how many times");
+    println!("faster than libgfshare");
     println!("{:66} {:>9} {:>9} {:>7} {:>7} {:>7}", "", "us: best", "median", "MB/s", "tables", "gfshare");
     all.iter().for_each(|task| println!("{}", task.line(&all)));
     println!("\nhow the cost grows, microseconds a call, best turns: split / reconstruct for the lowest count");

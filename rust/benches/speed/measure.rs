@@ -68,8 +68,8 @@ impl Task {
         }
     }
 
-    /// Microseconds a call, best and median; message MB a second, best turn; the obvious program's; and how many times faster
-    /// than libgfshare the call is.
+    /// Microseconds a call, best and median; message MB a second, best turn; the obvious program's; and how many times
+    /// faster than libgfshare the call is.
     pub fn line(&self, all: &[Task]) -> String {
         let program = &self.program;
         let (best, median) = (program.best() * 1e6, program.median() * 1e6);
