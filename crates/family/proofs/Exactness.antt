@@ -1,4 +1,4 @@
--- Exactness of any family: blocks that are opened exactly one by one are opened exactly N at once, and a message comes back.
+-- Exactness of any family: blocks that are opened exactly one by one are opened exactly N at once.
 -- A prefix has row j of block t at j * N + t, so bytes are the prefixes of N blocks just if each block has its readings.
 -- Assumes nothing.
 use mathlib.Core.Path.{_≡_, sym, ap, ap₂, _∙_}
@@ -8,16 +8,15 @@ use native.Mathlib.Nat.{le-of-eq, mul-le-mul-right, div-add-mod'}
 use native.Mathlib.Omega.{arith}
 use lib.ListN.{length, getD, take}
 use lib.Seq.{getD-take, length-take-le, ext-getD}
-use Rattle.lists.specs.Each.{Each, Byte}
+use Rattle.lists.specs.Each.{Byte}
 use Rattle.lists.specs.Table.{joined, piece}
 use Rattle.lists.proofs.Each.{each-getD}
 use Rattle.lists.proofs.Joined.{in-grid, below-product, piece-joined}
 use Rattle.lists.proofs.Piece.{length-piece, getD-piece, joined-is}
-use Rattle.scheme.specs.Check.{blockCount}
-use Rattle.family.specs.Message.{Bytes, padded}
+use Rattle.family.specs.Message.{Bytes}
 use Rattle.family.specs.Family.{Family, shareOfBlocks}
 use Rattle.family.specs.Exactness.{Has, BlockExact, firstRows, Gives, readings, openedBlocks, Exact}
-use Rattle.family.proofs.Message.{padded-bytes, unpadded, block-bytes, joined-bytes}
+use Rattle.family.proofs.Message.{block-bytes, joined-bytes}
 use Rattle.family.proofs.Shares.{length-share, share-byte}
 
 -- ---- the bytes of prefixes
@@ -123,14 +122,3 @@ module _ (F : Family) (parties : List ℕ) (rows known : ℕ) (opened openedKeys
             λ prefixes blocks blocks′ keys keys′ B B′ K K′ G G′ t ht.
             keys-known prefixes blocks keys B K G t ht ∙ sym (keys-known prefixes blocks′ keys′ B′ K′ G′ t ht);
       }
-
--- ---- a message, from the prefixes of its shares
-
-pub message-back : (F : Family) (parties : List ℕ) (rows known : ℕ) (opened : (ℕ → ℕ → ℕ) → List ℕ) → 0 < F .block
-    → (message keys prefixes : List ℕ) → Each Byte message
-    → let N : ℕ = blockCount (F .block) (length message) in
-    Exact F parties rows known opened N → Bytes (N * F .keys) keys → Gives F parties rows N (padded (F .block) message) keys prefixes
-    → take (length message) (openedBlocks rows opened N prefixes) ≡ message
-message-back F parties rows known opened positive message keys prefixes h X K G =
-    ap (take (length message)) (sym (X .unique prefixes (padded (F .block) message) keys (padded-bytes (F .block) message positive h) K G))
-    ∙ unpadded (F .block) message

@@ -1,5 +1,6 @@
 pub mod Sum
 pub mod Message
+pub mod Padding
 pub mod Shares
 pub mod Examples
 pub mod Mask

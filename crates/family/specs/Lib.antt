@@ -1,4 +1,5 @@
 pub mod Message
+pub mod Padding
 pub mod Family
 pub mod Secrecy
 pub mod Exactness

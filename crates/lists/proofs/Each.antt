@@ -1,6 +1,6 @@
 -- Laws of `Each`, and the test `distinct` against `Distinct`. Each is an induction over the list.
 -- Assumes nothing.
-use mathlib.Core.Path.{_≡_, refl, sym, ap₂}
+use mathlib.Core.Path.{_≡_, refl, sym, ap, ap₂}
 use mathlib.Core.Bool.{true, false, not, true≢false}
 use mathlib.Core.Logic.{_≢_}
 use mathlib.Core.List.{List, [], _∷_, _++_, map}
@@ -73,6 +73,19 @@ pub replicate-at {ℓ} : {A : Type ℓ} (n i : ℕ) (x : A) → getD (replicate 
 replicate-at zero i x = refl
 replicate-at (suc n) zero x = refl
 replicate-at (suc n) (suc i) x = replicate-at n i x
+
+-- where the value after a list's end is put there, nothing is seen of it
+pub getD-beyond {ℓ} : {A : Type ℓ} (l : List A) (n i : ℕ) (x : A) → getD (l ++ replicate n x) i x ≡ getD l i x
+getD-beyond [] n i x = replicate-at n i x
+getD-beyond (y ∷ l) n zero x = refl
+getD-beyond (y ∷ l) n (suc i) x = getD-beyond l n i x
+
+-- one entry more is seen at its own place alone
+pub getD-more {ℓ} : {A : Type ℓ} (l : List A) (y : A) (i : ℕ) (x : A) → i ≢ length l → getD (l ++ y ∷ []) i x ≡ getD l i x
+getD-more [] y zero x other = absurd (other refl)
+getD-more [] y (suc i) x other = refl
+getD-more (a ∷ l) y zero x other = refl
+getD-more (a ∷ l) y (suc i) x other = getD-more l y i x (λ e. other (ap suc e))
 
 -- ---- maps
 

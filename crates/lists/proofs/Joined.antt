@@ -3,8 +3,8 @@
 use mathlib.Core.Path.{_≡_, refl, sym, ap, _∙_}
 use mathlib.Core.List.{List}
 use mathlib.Core.Logic.{⊎-elim}
-use Prim.Native.Nat.{ℕ, zero, suc, _+_, _*_, _/_, _%_, _≤_, _<_}
-use native.Mathlib.Nat.{add-mul, mul-assoc, zero-mul, suc-mul, mul-zero, le-refl, le-step, le-of-eq, eq-or-lt-of-le, le-of-suc-le-suc, not-suc-le-zero, mul-le-mul-right, eq-zero-or-pos}
+use Prim.Native.Nat.{ℕ, zero, suc, _+_, _-_, _*_, _/_, _%_, _≤_, _<_}
+use native.Mathlib.Nat.{add-mul, one-mul, mul-assoc, zero-mul, suc-mul, mul-zero, le-refl, le-step, le-of-eq, eq-or-lt-of-le, le-of-suc-le-suc, not-suc-le-zero, mul-le-mul-right, eq-zero-or-pos}
 use native.Mathlib.Nat.{div-lt-iff-lt-mul, mod-lt, div-add-mod'}
 use native.Mathlib.Omega.{arith}
 use lib.Arith.{digits-lt, digits-div, digits-mod}
@@ -17,6 +17,12 @@ use Rattle.lists.proofs.Table.{tabulate-is, length-tabulate, getD-tabul
 
 pub row-room : (i n m : ℕ) → i < n → i * m + m ≤ n * m
 row-room i n m h = rw suc-mul at (mul-le-mul-right m h)
+
+-- all rows but the last, and the last
+pub last-row : (n m : ℕ) → 0 < n → n * m ≡ (n - 1) * m + m
+last-row n m some =
+    let e : n ≡ n - 1 + 1 = omega arith in
+    ap (λ (x : ℕ). x * m) e ∙ omega (arith, add-mul (n - 1) 1 m, one-mul m)
 
 pub below-product : (i n k m : ℕ) → i < n → k < m → i * m + k < n * m
 below-product i n k m a b = digits-lt a b

@@ -13,6 +13,11 @@ other-factor m (suc p) q a b h e f l =
     let same : suc p * a ≡ q * b = e ∙ sym f in
     lt-of-mul-lt-mul-right b (rw same at less)
 
+-- a factor of a positive number is positive
+pub positive-factor : (p a m : ℕ) → 0 < m → p * a ≡ m → 0 < p
+positive-factor zero a m h e = omega (arith, zero-mul a)
+positive-factor (suc p) a m h e = omega arith
+
 -- what p and q differ by, times b, is p times what a and b differ by
 pub factors-differ : (p q a b : ℕ) → p * a ≡ q * b → (q - p) * b ≡ p * (a - b)
 factors-differ p q a b e = cc (mul-comm (q - p) b, mul-sub b q p, mul-sub p a b, mul-comm b q, mul-comm b p)

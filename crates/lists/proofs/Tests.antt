@@ -4,8 +4,9 @@ use mathlib.Core.Path.{_≡_, refl, sym}
 use mathlib.Core.Bool.{Bool, true, false, cond, _&&_, _||_, true≢false}
 use mathlib.Core.Logic.{_⊎_, inl, inr}
 use Prim.Native.Nat.{ℕ, _<_, _≤_}
-use lib.Dec.{T, ltb}
-use borrow.Author.Tests.{ltb-true, ltb-false}
+use native.Mathlib.Omega.{arith}
+use lib.Dec.{T, ltb, eqb}
+use borrow.Author.Tests.{ltb-true, ltb-false, eqb-false}
 
 pub both-left : (a b : Bool) → T (a && b) → T a
 both-left true b t = tt
@@ -27,6 +28,10 @@ neither false b e = (refl, e)
 pub cond-ind {ℓ ℓ′} : {A : Type ℓ} (P : A → Type ℓ′) {t : Bool} {a b : A} → (t ≡ true → P a) → (t ≡ false → P b) → P (cond t a b)
 cond-ind P {t = true} f g = f refl
 cond-ind P {t = false} f g = g refl
+
+-- a number that is not 0 is positive
+pub test-positive : (n : ℕ) → eqb n 0 ≡ false → 0 < n
+test-positive n e = let other = eqb-false n 0 e in omega arith
 
 lt-or-le-by : (a b : ℕ) (t : Bool) → ltb a b ≡ t → (a < b) ⊎ (b ≤ a)
 lt-or-le-by a b true e = inl (ltb-true a b e)

@@ -119,6 +119,11 @@ unfolding firstOf
 first-none zero qs e = (refl, e)
 first-none (suc q) qs e = absurd (let no : ⊥ = omega (arith, numbered (stop {q = suc q} {qs = qs} (omega arith))) in no)
 
+-- one that does not apply is passed over
+pub first-passed : (q : ℕ) (qs : List ℕ) → q ≡ 0 → firstOf (q ∷ qs) ≡ firstOf qs
+unfolding firstOf
+first-passed q qs e = rw (eq-eqb q 0 e)
+
 pub first-if : (q : ℕ) (t : Bool) (qs : List ℕ) → firstOf (numberIf (suc q) t ∷ qs) ≡ 0 → (t ≡ false) × (firstOf qs ≡ 0)
 first-if q true qs e = absurd (let no : ⊥ = omega (arith, first-none (suc q) qs e .0) in no)
 first-if q false qs e = (refl, first-none 0 qs e .1)

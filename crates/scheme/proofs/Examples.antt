@@ -1,10 +1,11 @@
--- Worked examples of the check and of the number of blocks, by computing; and the limits, in numbers.
+-- Worked examples of the check and of the number of blocks, by computing; and the limits and the marker of a message's end, in numbers.
 -- Assumes nothing.
 use mathlib.Core.Path.{_≡_, refl}
 use mathlib.Core.List.{[], _∷_}
-use Rattle.scheme.specs.Limits.{maxParties, maxCounts, maxBlock, maxMessage, defaultN, defaultR, defaultZ, defaultCounts}
+use Rattle.scheme.specs.Limits.{maxParties, maxCounts, maxBlock, maxMessage, maxBlocks, defaultN, defaultR, defaultZ, defaultCounts}
 use Rattle.scheme.specs.Outcome.{accepted, refused, firstOf, answer}
 use Rattle.scheme.specs.BlockLength.{divides, firstFrom, commonMultiple, blockLength}
+use Rattle.scheme.specs.Padding.{endMarker, paddedCount, mostPadded, blocksHeld}
 use Rattle.scheme.specs.Check.{falls, partiesRefused, thresholdsRefused, countsRefused, blockRefused, refusal, rowsOfCount, rowsOfBlock, blockCount, checked}
 
 pub limits :
@@ -12,11 +13,12 @@ pub limits :
     × (maxCounts ≡ 8)
     × (maxBlock ≡ 840)
     × (maxMessage ≡ 16384)
+    × (endMarker ≡ 128)
     × (defaultN ≡ 5)
     × (defaultR ≡ 2)
     × (defaultZ ≡ 1)
     × (defaultCounts ≡ 5 ∷ 4 ∷ 3 ∷ [])
-limits = (refl, refl, refl, refl, refl, refl, refl, refl)
+limits = (refl, refl, refl, refl, refl, refl, refl, refl, refl)
 
 pub default-accepted : refusal defaultN defaultR defaultZ defaultCounts ≡ 0
 unfolding divides firstFrom commonMultiple blockLength falls partiesRefused thresholdsRefused countsRefused blockRefused firstOf refusal
@@ -41,5 +43,16 @@ pub examples :
     × (blockCount 12 0 ≡ 0)
     × (blockCount 12 12 ≡ 1)
     × (blockCount 12 13 ≡ 2)
-unfolding divides firstFrom commonMultiple blockLength falls partiesRefused thresholdsRefused countsRefused blockRefused firstOf answer refusal rowsOfCount rowsOfBlock blockCount checked
-examples = (refl, refl, refl, refl, refl, refl, refl, refl, refl, refl, refl, refl)
+    -- with padding: no bytes, all but a byte of a block, a whole block
+    × (paddedCount 12 0 ≡ 1)
+    × (paddedCount 12 11 ≡ 1)
+    × (paddedCount 12 12 ≡ 2)
+    -- the most blocks, of one byte and of 12; told by 6 bytes a block, with no blocks, a byte too many and a block too many
+    × (mostPadded 1 ≡ maxBlocks)
+    × (mostPadded 12 ≡ 1366)
+    × (blocksHeld 1366 6 8196 ≡ 1366)
+    × (blocksHeld 1366 6 0 ≡ 0)
+    × (blocksHeld 1366 6 7 ≡ 0)
+    × (blocksHeld 1366 6 8202 ≡ 0)
+unfolding divides firstFrom commonMultiple blockLength falls partiesRefused thresholdsRefused countsRefused blockRefused firstOf answer refusal rowsOfCount rowsOfBlock blockCount checked paddedCount blocksHeld
+examples = (refl, refl, refl, refl, refl, refl, refl, refl, refl, refl, refl, refl, refl, refl, refl, refl, refl, refl, refl, refl, refl)

@@ -80,24 +80,31 @@ pub end : Tested [] []
 unfolding firstOf
 end = none refl tt
 
--- a line of the table in front: a number that is given by a test, and in words
-pub line : {t : Bool} {A : Type 0} {number : ℕ} {qs : List ℕ} {grounds : List Ground}
-    → Reflects t A → Tested qs grounds → Tested (numberIf (suc number) t ∷ qs) (ground (suc number) A ∷ grounds)
+-- a line of the table in front: a number that is given by a test, and in words. What comes after it need only be so where the test is false
+pub line-then : {t : Bool} {A : Type 0} {number : ℕ} {qs : List ℕ} {grounds : List Ground}
+    → Reflects t A → (t ≡ false → Tested qs grounds) → Tested (numberIf (suc number) t ∷ qs) (ground (suc number) A ∷ grounds)
 unfolding firstOf
-line {t = true} {number = number} {qs = qs} r rest =
+line-then {t = true} {number = number} {qs = qs} r rest =
     let is : firstOf (suc number ∷ qs) ≡ suc number = numbered (stop {q = suc number} {qs = qs} (omega arith)) in
     some (omega arith) (inl (r .holds refl, is))
-line {t = false} r (none e n) = none e (r .fails refl, n)
-line {t = false} r (some p f) = some p (inr (r .fails refl, f))
+line-then {t = false} {A} {number} {qs} {grounds} r rest = by (rest refl)
+  where
+    by : Tested qs grounds → Tested (0 ∷ qs) (ground (suc number) A ∷ grounds)
+    by (none e n) = none e (r .fails refl, n)
+    by (some p f) = some p (inr (r .fails refl, f))
+
+pub line : {t : Bool} {A : Type 0} {number : ℕ} {qs : List ℕ} {grounds : List Ground}
+    → Reflects t A → Tested qs grounds → Tested (numberIf (suc number) t ∷ qs) (ground (suc number) A ∷ grounds)
+line r rest = line-then r (λ _. rest)
 
 -- no two numbers are the first, and none is where no ground applies
-first-once : (grounds : List Ground) (q k : ℕ) → FirstApplies q grounds → FirstApplies k grounds → q ≡ k
+pub first-once : (grounds : List Ground) (q k : ℕ) → FirstApplies q grounds → FirstApplies k grounds → q ≡ k
 first-once (g ∷ grounds) q k (inl a) (inl b) = a .1 ∙ sym (b .1)
 first-once (g ∷ grounds) q k (inl a) (inr n) = absurd (n .0 (a .0))
 first-once (g ∷ grounds) q k (inr n) (inl b) = absurd (n .0 (b .0))
 first-once (g ∷ grounds) q k (inr n) (inr m) = first-once grounds q k (n .1) (m .1)
 
-none-first : (grounds : List Ground) (q : ℕ) → NoneApplies grounds → FirstApplies q grounds → ⊥
+pub none-first : (grounds : List Ground) (q : ℕ) → NoneApplies grounds → FirstApplies q grounds → ⊥
 none-first (g ∷ grounds) q n (inl a) = n .0 (a .0)
 none-first (g ∷ grounds) q n (inr f) = none-first grounds q (n .1) (f .1)
 
@@ -114,10 +121,10 @@ first-applies {grounds = grounds} (some _ f) p = (λ e. rw e at f, λ g. first-o
 
 -- values exactly where no ground applies, a refusal exactly where it is the first that does
 module _ {qs : List ℕ} {grounds : List Ground} (tested : Tested qs grounds) where
-  accepted-none : (vs ws : List ℕ) → accepted ws ≡ answer (firstOf qs) vs → NoneApplies grounds
+  pub accepted-none : (vs ws : List ℕ) → accepted ws ≡ answer (firstOf qs) vs → NoneApplies grounds
   accepted-none vs ws e = none-applies tested .0 (answered-none _ ws vs e .0)
 
-  refused-first : (v q : ℕ) (vs : List ℕ) → refused q ≡ answer (firstOf qs) (v ∷ vs) → FirstApplies q grounds
+  pub refused-first : (v q : ℕ) (vs : List ℕ) → refused q ≡ answer (firstOf qs) (v ∷ vs) → FirstApplies q grounds
   refused-first v q vs e =
       let told = answered-some _ q v vs e in
       first-applies {q = q} tested (omega (arith, told .0, told .1)) .0 (told .0)
@@ -154,9 +161,9 @@ first-only [] more q n f = f
 first-only (g ∷ grounds) more q n (inl a) = absurd (n .0 (a .0))
 first-only (g ∷ grounds) more q n (inr f) = first-only grounds more q (n .1) (f .1)
 
-nested : {ks qs : List ℕ} {grounds more : List Ground} → Tested ks grounds → Tested qs more → Tested (firstOf ks ∷ qs) (grounds ++ more)
+nested : {ks qs : List ℕ} {grounds more : List Ground} → Tested ks grounds → (firstOf ks ≡ 0 → Tested qs more) → Tested (firstOf ks ∷ qs) (grounds ++ more)
 unfolding firstOf
-nested {ks} {qs} {grounds} {more} (none e n) rest = rw e (by rest)
+nested {ks} {qs} {grounds} {more} (none e n) rest = rw e (by (rest e))
   where
     by : Tested qs more → Tested (0 ∷ qs) (grounds ++ more)
     by (none d m) = none d (each-append (λ (g : Ground). g .applies → ⊥) grounds more n m)
@@ -190,12 +197,17 @@ counts-wrong : (n r : ℕ) (ds : List ℕ) → Reflects (countsRefused n r ds) (
 unfolding countsRefused
 counts-wrong n r ds = simp or-assoc (either same (either above (either (no-fall ds) (either above other))))
 
+-- a call's own lines need only be so of an accepted scheme
+pub after-accepted : (n r z : ℕ) (ds : List ℕ) {qs : List ℕ} {grounds : List Ground}
+    → (refusal n r z ds ≡ 0 → Tested qs grounds) → Tested (refusal n r z ds ∷ qs) (schemeGrounds n r z ds ++ grounds)
+unfolding refusal partiesRefused thresholdsRefused
+after-accepted n r z ds rest =
+    nested (line (either above above) (line (either same at-least) (line (counts-wrong n r ds) (line (block-too-long z ds) end)))) rest
+
 -- with it a call's answer is read as `answered-by (after-scheme n r z ds (line above (line other end)))`, a step for each of its own tests
 pub after-scheme : (n r z : ℕ) (ds : List ℕ) {qs : List ℕ} {grounds : List Ground}
     → Tested qs grounds → Tested (refusal n r z ds ∷ qs) (schemeGrounds n r z ds ++ grounds)
-unfolding refusal partiesRefused thresholdsRefused
-after-scheme n r z ds rest =
-    nested (line (either above above) (line (either same at-least) (line (counts-wrong n r ds) (line (block-too-long z ds) end)))) rest
+after-scheme n r z ds rest = after-accepted n r z ds (λ _. rest)
 
 -- ---- the check
 

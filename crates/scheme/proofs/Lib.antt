@@ -5,5 +5,6 @@ mod Refusals
 mod SchemeFacts
 mod Parties
 mod Grounds
+mod Blocks
 pub mod Examples
 pub mod Laws

@@ -3,13 +3,13 @@
 -- Assumes nothing.
 use mathlib.Core.Path.{_≡_, refl, sym, ap, _∙_}
 use mathlib.Core.List.{List}
-use Prim.Native.Nat.{ℕ, zero, suc, _+_, _-_, _*_, _<_, _∣_}
-use native.Mathlib.Nat.{div-mul-cancel, mul-div-cancel', zero-mul}
+use Prim.Native.Nat.{ℕ, _+_, _-_, _*_, _<_, _∣_}
+use native.Mathlib.Nat.{div-mul-cancel, mul-div-cancel'}
 use native.Mathlib.Omega.{arith}
 use lib.ListN.{length, getD}
 use Rattle.lists.specs.Each.{Each}
 use Rattle.lists.proofs.Each.{each-getD, each-of}
-use Rattle.lists.proofs.Numbers.{other-factor, factors-differ, round-up-covers, round-up-least}
+use Rattle.lists.proofs.Numbers.{other-factor, factors-differ, positive-factor, round-up-covers, round-up-least}
 use Rattle.scheme.specs.declared.Scheme.{Scheme}
 use Rattle.scheme.specs.declared.SchemeAnswer.{SchemeAnswer}
 use Rattle.scheme.specs.declared.SchemeAnswer.the-variants.{Accepted}
@@ -57,10 +57,6 @@ module _ (n r z : ℕ) (ds : List ℕ) (s : ThresholdsFit n r z) (f : Fit n r ds
   exact i h =
       let e : getD ds i 0 - z - (getD ds (i + 1) 0 - z) ≡ getD ds i 0 - getD ds (i + 1) 0 = omega (arith, fit-low n r ds f (i + 1) h, s .room) in
       rw e at (factors-differ _ _ _ _ (whole i (omega arith) ∙ sym (whole (i + 1) h)))
-
-positive-factor : (p a m : ℕ) → 0 < m → p * a ≡ m → 0 < p
-positive-factor zero a m h e = omega (arith, zero-mul a)
-positive-factor (suc p) a m h e = omega arith
 
 pub accepted : (n r z : ℕ) (ds : List ℕ) → refusal n r z ds ≡ 0
     → facts.SchemeFacts n r z ds (blockLength z ds) (rowsOfBlock n r z (blockLength z ds))

@@ -1,7 +1,7 @@
 -- The limits and the default scheme of document 01. Each stands here and, for the code, in src/limits.rt.
 -- Assumes nothing.
 use mathlib.Core.List.{List, [], _∷_}
-use Prim.Native.Nat.{ℕ}
+use Prim.Native.Nat.{ℕ, _+_}
 
 -- n is at least 2 and at most this
 abbrev pub maxParties : ℕ
@@ -17,6 +17,11 @@ maxBlock = 840
 -- the longest message, in bytes
 abbrev pub maxMessage : ℕ
 maxMessage = 16384
+
+-- the most blocks that a message makes: in blocks of one byte, with one more for its padding (document 02, a). A bound for the loops' contracts, of
+-- which the code has no constant
+abbrev pub maxBlocks : ℕ
+maxBlocks = maxMessage + 1
 
 -- the default scheme
 abbrev pub defaultN : ℕ

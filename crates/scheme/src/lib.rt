@@ -10,6 +10,7 @@ ghost use Rattle.scheme.specs.Check.{checked, countsRefused, rowsOfCount
 use lists::wide;
 
 pub mod limits;
+pub mod padding;
 mod readers;
 
 pub use readers::is_count;

@@ -13,16 +13,16 @@ use Rattle.lists.specs.Table.{piece}
 use Rattle.lists.proofs.Each.{occurs-place}
 use Rattle.lists.proofs.Joined.{below-product, place-in}
 use Rattle.lists.proofs.Piece.{getD-piece}
-use Rattle.scheme.specs.Check.{blockCount, rowsOfCount}
+use Rattle.scheme.specs.Check.{rowsOfCount}
 use Rattle.scheme.proofs.Laws.{default-accepted}
 use Rattle.family.specs.Message.{Bytes}
 use Rattle.family.specs.Exactness as family
 use Rattle.family.proofs.Exactness.{blocks-exact}
-use Rattle.staircase.specs.Parameters.{Parameters, AcceptedScheme, Party, defaultParameters, block, rows, point}
+use Rattle.staircase.specs.Parameters.{Parameters, AcceptedScheme, Party, defaultParameters, block, rows, blocksOf, point}
 use Rattle.staircase.specs.Coefficients.{keyPlace}
 use Rattle.staircase.specs.Shares.{staircase}
 use Rattle.staircase.specs.Opening.{openedBlock}
-use Rattle.staircase.specs.Exactness.{prefixBytes, openedString, Opened, Exactness}
+use Rattle.staircase.specs.Exactness.{prefixBytes, openedString, OpenedBlocks, BlocksExactness, Exactness}
 use Rattle.staircase.proofs.Exactness.{staircase-exact}
 use Rattle.staircase.proofs.Sizes.{rows-within}
 
@@ -60,10 +60,9 @@ module _ (p : Parameters) (A : AcceptedScheme p) (parties : List ℕ) (counted :
       ∙ getD-piece {A = ℕ} (rows p * p .z) t keys (j * p .z + e) 0 (below-product j (rows p) e (p .z) (omega (arith, few)) he)
       ∙ ap (λ (k : ℕ). getD keys k 0) (place-in t (rows p) j e (p .z))
 
-  opened : (message : ℕ) (prefixes : List ℕ) → Bytes (prefixBytes p (length parties) (blockCount (block p) message)) prefixes → Opened p message parties prefixes
+  opened : (N : ℕ) (prefixes : List ℕ) → Bytes (prefixBytes p (length parties) N) prefixes → OpenedBlocks p N parties prefixes
   unfolding openedString staircase
-  opened message prefixes h =
-      let N : ℕ = blockCount (block p) message in
+  opened N prefixes h =
       let E = exact N in
       let found = E .exists prefixes (rw (bytes-number N) at h) in
       record {
@@ -78,9 +77,15 @@ module _ (p : Parameters) (A : AcceptedScheme p) (parties : List ℕ) (counted :
             ∙ key-at N t j e keys′ hj he;
       }
 
-pub exactness : (p : Parameters) → AcceptedScheme p → Exactness p
-exactness p A message short parties counted apart inside prefixes h = opened p A parties counted apart inside message prefixes h
+pub blocks-exactness : (p : Parameters) → AcceptedScheme p → BlocksExactness p
+blocks-exactness p A N parties counted apart inside prefixes h = opened p A parties counted apart inside N prefixes h
 
--- the form without a scheme
+pub exactness : (p : Parameters) → AcceptedScheme p → Exactness p
+exactness p A message short = blocks-exactness p A (blocksOf p message)
+
+-- the forms without a scheme
+pub default-blocks-exactness : BlocksExactness defaultParameters
+default-blocks-exactness = blocks-exactness defaultParameters default-accepted
+
 pub default-exactness : Exactness defaultParameters
 default-exactness = exactness defaultParameters default-accepted

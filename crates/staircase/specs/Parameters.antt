@@ -7,6 +7,7 @@ use Rattle.scheme.specs.declared.Scheme.{Scheme}
 use Rattle.scheme.specs.Limits.{defaultN, defaultR, defaultZ, defaultCounts}
 use Rattle.scheme.specs.BlockLength.{blockLength}
 use Rattle.scheme.specs.Check.{refusal, rowsOfCount, rowsOfBlock, blockCount}
+use Rattle.scheme.specs.Padding.{paddedCount}
 
 pub record Parameters : Type 0 where
   pub n : ℕ
@@ -29,6 +30,10 @@ prefixRows p d = rowsOfCount (block p) (p .z) d
 -- document 01's N: the blocks of a message of so many bytes
 abbrev pub blocksOf : Parameters → ℕ → ℕ
 blocksOf p message = blockCount (block p) message
+
+-- N of a padded message (document 02, a)
+abbrev pub paddedBlocksOf : Parameters → ℕ → ℕ
+paddedBlocksOf p message = paddedCount (block p) message
 
 -- the bytes that N blocks make: of keys, of a share, of all shares
 abbrev pub keyBytes : Parameters → ℕ → ℕ
