@@ -5,8 +5,10 @@ use mathlib.Core.List.{[], _∷_}
 use Rattle.scheme.specs.Outcome.{accepted, firstOf, answer}
 use Rattle.scheme.specs.BlockLength.{divides, firstFrom, commonMultiple, blockLength}
 use Rattle.scheme.specs.Check.{falls, partiesRefused, thresholdsRefused, countsRefused, blockRefused, refusal, rowsOfBlock, blockCount}
+use Rattle.scheme.specs.Padding.{paddedCount}
 use Rattle.staircase.specs.Parameters.{parameters, schemeA}
 use Rattle.dealer.specs.Split.{splitRefusal, splitAnswer}
+use Rattle.dealer.specs.SplitPadded.{splitPaddedRefusal, splitPaddedAnswer}
 
 pub examples :
     -- the scheme before 5, 5 before 8, 8 before 10
@@ -16,5 +18,14 @@ pub examples :
     -- the longest message, and one that is longer
     × (splitAnswer schemeA 16384 16384 49152 ≡ accepted (16384 ∷ []))
     × (splitRefusal schemeA 16385 16386 49158 ≡ 5)
-unfolding divides firstFrom commonMultiple blockLength falls partiesRefused thresholdsRefused countsRefused blockRefused firstOf answer refusal rowsOfBlock blockCount splitRefusal splitAnswer
-examples = (refl, refl, refl, refl, refl)
+    -- the same of a padded message: two bytes make two blocks, the longest message 8193
+    × (splitPaddedRefusal (parameters 3 1 1 (3 ∷ [])) 16385 16386 49158 ≡ 3)
+    × (splitPaddedRefusal schemeA 16385 0 49158 ≡ 5)
+    × (splitPaddedRefusal schemeA 2 2 6 ≡ 8)
+    × (splitPaddedRefusal schemeA 2 4 6 ≡ 10)
+    × (splitPaddedAnswer schemeA 2 4 12 ≡ accepted (4 ∷ []))
+    × (splitPaddedAnswer schemeA 0 2 6 ≡ accepted (2 ∷ []))
+    × (splitPaddedAnswer schemeA 16384 16386 49158 ≡ accepted (16386 ∷ []))
+    × (splitPaddedRefusal schemeA 16385 16386 49158 ≡ 5)
+unfolding divides firstFrom commonMultiple blockLength falls partiesRefused thresholdsRefused countsRefused blockRefused firstOf answer refusal rowsOfBlock blockCount paddedCount splitRefusal splitAnswer splitPaddedRefusal splitPaddedAnswer
+examples = (refl, refl, refl, refl, refl, refl, refl, refl, refl, refl, refl, refl, refl)

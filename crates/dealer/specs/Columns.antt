@@ -2,7 +2,7 @@
 -- Assumes nothing.
 use mathlib.Core.Path.{_≡_}
 use mathlib.Core.Bool.{cond}
-use mathlib.Core.List.{List}
+use mathlib.Core.List.{List, [], _∷_, _++_}
 use mathlib.Core.Logic.{_⊎_}
 use Prim.Native.Nat.{ℕ, _+_, _*_, _≤_, _<_}
 use lib.Dec.{ltb}
@@ -14,6 +14,7 @@ use Rattle.columns.specs.Columns.{strided, flatColumns}
 use Rattle.staircase.specs.Parameters.{parametersOf, point}
 use Rattle.staircase.specs.Coefficients.{origin, keyPlace, shareByte}
 use Rattle.rows.specs.Sources.{RowOrigins}
+use Rattle.dealer.specs.declared.shares.Follower.{Follower}
 
 -- the coefficient of degree e of row j in 64 blocks from t on: key bytes, or the message bytes at its origin, 0 past their ends
 unfoldable pub column : ℕ → ℕ → ℕ → List ℕ → List ℕ → List ℕ → ℕ → ℕ → ℕ → List ℕ
@@ -25,6 +26,18 @@ pub record Filled (m q many : ℕ) (g : ℕ → ℕ → ℕ) (parts : ℕ) (o w 
   pub long : length w ≡ length o
   pub inside : (a k : ℕ) → a < parts → k < many → getD w (a * m + (q + k)) 0 ≡ g a k
   pub outside : (a i : ℕ) → i < m → (parts ≤ a) ⊎ ((i < q) ⊎ (q + many ≤ i)) → getD w (a * m + i) 0 ≡ getD o (a * m + i) 0
+
+-- the message of the scheme s ends where it is said: its length is so many whole blocks and a place
+pub record EndsThere (s : Scheme) (end : Follower) (message : List ℕ) : Type 0 where
+  pub length-is : length message ≡ end .block * s .block + end .place
+  pub inside : end .place < s .block
+
+-- a column of a place in 64 blocks from t on, of bytes that end at place `rest` of block `last`, became that of the bytes and one more: in blocks of any
+-- length m
+abbrev pub Followed : ℕ → ℕ → ℕ → ℕ → ℕ → List ℕ → List ℕ → Type 0
+Followed last rest byte t place before after =
+    (bytes : List ℕ) (m : ℕ) → length bytes ≡ last * m + rest → rest < m → place < m
+    → before ≡ strided bytes (t * m + place) m → after ≡ strided (bytes ++ byte ∷ []) (t * m + place) m
 
 -- `place` is that of the coefficient where this is no key: then r is its column, in a scheme s of any counts
 abbrev pub IsColumn : Scheme → ℕ → List ℕ → List ℕ → ℕ → ℕ → ℕ → List ℕ → Type 0

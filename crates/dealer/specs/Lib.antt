@@ -1,2 +1,4 @@
 pub mod Split
+pub mod SplitPadded
 pub mod Columns
+pub mod Dealing

@@ -1,12 +1,13 @@
--- `dealer::shares::column_of` meets its contract: below z and from z up the column is gathered from its place on. The places fit in a word
--- since the scheme's numbers are small.
+-- `dealer::shares::column_of` meets its contract: below z and from z up the column is gathered from its place on, and from z up the byte after the
+-- message is put into it. The places fit in a word since the scheme's numbers are small.
 -- Assumes nothing.
+use mathlib.Core.Path.{_∙_}
 use Prim.Native.Nat.{_+_, _*_, _≤_, _<_}
 use native.Mathlib.Nat.{mul-le-mul}
 use native.Mathlib.Omega.{arith}
 use borrow.Author.Needs.{needs}
 use borrow.Author.Tests.{lt-ltb, le-ltb}
-use Rattle.scheme.specs.Limits.{maxParties, maxBlock, maxMessage}
+use Rattle.scheme.specs.Limits.{maxParties, maxBlock, maxBlocks}
 use Rattle.dealer.specs.Columns.{column}
 use Rattle.dealer.proofs.shares.column_of.Statement.{statement}
 use Rattle.dealer.proofs.shares.column_of.Tie as tie
@@ -20,18 +21,18 @@ module _ (c : tie.After-wide) where
   low : c .wide .result ≤ maxParties
   low = omega (arith, c .wide .ensures, start c .pre .2)
 
-  rows-before : start c .args .t * start c .args .s .rows ≤ maxMessage * maxBlock
+  rows-before : start c .args .t * start c .args .s .rows ≤ maxBlocks * maxBlock
   rows-before = mul-le-mul (start c .pre .3) (start c .pre .1)
 
-  keys-before : (start c .args .t * start c .args .s .rows + start c .args .j) * c .wide .result ≤ (maxMessage * maxBlock + maxBlock) * maxParties
+  keys-before : (start c .args .t * start c .args .s .rows + start c .args .j) * c .wide .result ≤ (maxBlocks * maxBlock + maxBlock) * maxParties
   keys-before =
-      let h : start c .args .t * start c .args .s .rows + start c .args .j ≤ maxMessage * maxBlock + maxBlock = omega (arith, rows-before, start c .pre .4, start c .pre .1) in
+      let h : start c .args .t * start c .args .s .rows + start c .args .j ≤ maxBlocks * maxBlock + maxBlock = omega (arith, rows-before, start c .pre .4, start c .pre .1) in
       mul-le-mul h low
 
   keys-apart : start c .args .s .rows * c .wide .result ≤ maxBlock * maxParties
   keys-apart = mul-le-mul (start c .pre .1) low
 
-  bytes-before : start c .args .t * start c .args .s .block ≤ maxMessage * maxBlock
+  bytes-before : start c .args .t * start c .args .s .block ≤ maxBlocks * maxBlock
   bytes-before = mul-le-mul (start c .pre .3) (start c .pre .0)
 
 -- from z up
@@ -64,9 +65,15 @@ column-of-spec =
     (λ c. omega (arith, bytes-before (c .before)))
     (λ c. omega (arith, bytes-before (c .before), inside c))
     (λ c κs. search needs)
+    (λ c κs.
+    let g = c .before .before .before in
+    g .gather-into2 .kept .1 .1 .1 .0 ∙ start (g .before .before .before) .pre .7)
     (λ c. search needs)
     (λ c ds o.
-    let i = c .before .before .before .before in
+    let k = c .before .before in
+    let g = k .before .before .before .before in
+    let i = g .before .before in
     let w = i .before in
+    let there = start w .pre .8 in
     rw (← o (from i), ← w .wide .ensures, le-ltb (start w .args .e) (w .wide .result) (i .if1 .left))
-    (rw (start w .pre .7) at (c .before .before .gather-into2 .ensures))))
+    (k .mark .ensures _ _ (there .length-is) (there .inside) (start w .pre .6 (from i)) (rw (start w .pre .7) at (g .gather-into2 .ensures)))))

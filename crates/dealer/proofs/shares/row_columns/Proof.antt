@@ -2,7 +2,7 @@
 -- places are the row's origins. The measure is what is left of the d columns.
 -- Assumes nothing.
 use mathlib.Core.Path.{_≡_, sym, _∙_}
-use mathlib.Core.List.{List}
+use mathlib.Core.List.{List, [], _∷_, _++_}
 use Prim.Native.Nat.{ℕ, _+_, _-_, _*_, _≤_, _<_}
 use native.Mathlib.Nat.{not-suc-le-zero}
 use native.Mathlib.Omega.{arith}
@@ -19,11 +19,11 @@ use Rattle.dealer.proofs.shares.row_columns.Statement.{statement}
 use Rattle.dealer.proofs.shares.row_columns.Tie as tie
 
 abbrev Inv-loop : tie.InvT-loop
-Inv-loop s places message keys t j d columns₀ e₀ columns e =
-    (e ≤ d) × (length columns ≡ side * lanes) × ((ds : List ℕ) → RowOrigins (s .block) (s .z) ds j d places → (i : ℕ) → i < e → flatColumn columns i ≡ column (s .block) (s .rows) (s .z) ds message keys t j i)
+Inv-loop s end places message keys t j d columns₀ e₀ columns e =
+    (e ≤ d) × (length columns ≡ side * lanes) × ((ds : List ℕ) → RowOrigins (s .block) (s .z) ds j d places → (i : ℕ) → i < e → flatColumn columns i ≡ column (s .block) (s .rows) (s .z) ds (message ++ end .byte ∷ []) keys t j i)
 
 abbrev μ-loop : tie.MeasureT-loop
-μ-loop s places message keys t j d columns₀ e₀ columns e = d - e
+μ-loop s end places message keys t j d columns₀ e₀ columns e = d - e
 
 -- column e lies inside the buffer
 room : (w : tie.In-loop Inv-loop μ-loop) → w .before .loop .e * lanes + lanes ≤ length (w .before .loop .columns)
@@ -45,15 +45,15 @@ row-columns-spec =
     let w = c .before .before in
     let l = w .before .loop in
     let p = c .before .before .before .before .before .before .before .pre in
-    (p .0, p .1, p .2, p .3, p .4, omega arith, (λ h. p .8 (l .e) h (w .loop-test .taken)), part-length (l .e * lanes) lanes (l .columns) (room w)))
+    (p .0, p .1, p .2, p .3, p .4, omega arith, (λ h. p .8 (l .e) h (w .loop-test .taken)), part-length (l .e * lanes) lanes (l .columns) (room w), p .9))
     (λ c. search needs)
     (λ c. search needs)
     (λ c.
     let f = c .before .before in
     let w = f .before .before .before in
     let l = w .before .loop in
-    let y = f .column-of .last .1 .1 .1 .1 .1 .1 .1 .0 in
-    let long : length y ≡ lanes = f .column-of .kept .1 .1 .1 .1 .1 .1 .1 .0 ∙ part-length (l .e * lanes) lanes (l .columns) (room w) in (
+    let y = f .column-of .last .1 .1 .1 .1 .1 .1 .1 .1 .0 in
+    let long : length y ≡ lanes = f .column-of .kept .1 .1 .1 .1 .1 .1 .1 .1 .0 ∙ part-length (l .e * lanes) lanes (l .columns) (room w) in (
       omega arith,
       flat-length (l .e) (l .columns) y (room w) long ∙ l .inv .1,
       λ ds o. flat-more (l .e) (l .columns) y (room w) long _ (l .inv .2 ds o) (f .column-of .ensures ds (λ h. o .is (l .e) h (w .loop-test .taken))),
