@@ -13,6 +13,13 @@ use scheme::limits::DEFAULT_R;
 use scheme::limits::DEFAULT_Z;
 use scheme::limits::MAX_MESSAGE;
 
+mod padded;
+
+pub use padded::prefix_padded;
+pub use padded::prefix_padded_default;
+pub use padded::prefix_padded_length;
+pub use padded::prefix_padded_length_default;
+
 // The length of the prefix for the count d of a share of a message of so many bytes. Refusals 1 to
 // 4: those of the scheme. 5: the message is too long. 6: d is not a count. 9: the share's length is
 // not that of such a message's shares.

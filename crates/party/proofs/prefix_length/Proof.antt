@@ -10,7 +10,7 @@ use Rattle.scheme.specs.Facts.{SchemeIs}
 use Rattle.scheme.proofs.Laws.{accepted-scheme, answers, done, pass, stop-scheme, stop-over, pass-within, stop-true, pass-false, stop-other, pass-same}
 use Rattle.party.specs.Prefix.{prefixRefusal, prefixAnswer}
 use Rattle.party.proofs.Handing.{prefix-length-is}
-use Rattle.staircase.proofs.Sizes.{share-length, share-small, prefix-small}
+use Rattle.staircase.proofs.Sizes.{share-length, blocks-few, share-small, prefix-small}
 use Rattle.party.proofs.prefix_length.Statement.{statement}
 use Rattle.party.proofs.prefix_length.Tie as tie
 
@@ -42,7 +42,8 @@ prefix-length-spec =
     (λ c.
     let b = c .before in
     let e = b .before in
-    omega (arith, share-small _ _ (scheme-of (e .before .before)) _ _ (b .block-count .ensures) (e .if1 .left)))
+    let is = scheme-of (e .before .before) in
+    omega (arith, share-small _ _ is _ (blocks-few _ _ is _ _ (b .block-count .ensures) (e .if1 .left))))
     (λ c.
     let e = c .before .before .before in
     let k = e .before in
@@ -58,7 +59,8 @@ prefix-length-spec =
     (λ c.
     let b = c .before .before .before .before in
     let e = b .before in
-    omega (arith, prefix-small _ _ (scheme-of (e .before .before)) _ _ (b .block-count .ensures) (e .if1 .left) _ _ _ (c .rows-of-count .ensures)))
+    let is = scheme-of (e .before .before) in
+    omega (arith, prefix-small _ _ is _ (blocks-few _ _ is _ _ (b .block-count .ensures) (e .if1 .left)) _ _ _ (c .rows-of-count .ensures)))
     (λ c.
     let f = c .before .before in
     let b = f .before .before in
