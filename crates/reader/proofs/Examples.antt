@@ -1,19 +1,21 @@
--- Worked examples of the basis and the opener, by computing: the order of their refusals, by two faults at once; a basis, with its zeros; the longest
--- message on both sides; and an opening whose padding is not zero, which is dropped as any other.
+-- Worked examples of the basis and the openers, by computing: the order of their refusals, by two faults at once; a basis, with its zeros; the longest
+-- message on both sides; an opening whose padding is not zero, which is dropped as any other; and padded messages, with and without an end.
 -- Assumes nothing.
 use mathlib.Core.Path.{_≡_, refl}
 use mathlib.Core.List.{[], _∷_}
 use lib.ListN.{replicate}
 use Rattle.lists.specs.Each.{occurs, distinct}
-use Rattle.lists.specs.Table.{tabulate, joined}
+use Rattle.lists.specs.Table.{tabulate, joined, piece}
 use Rattle.gf256.specs.Byte as byte
 use Rattle.gf256.specs.Byte.{_⊕_, _⊗_, cut, reduce, inverseBelow, inverse}
 use Rattle.interpolation.specs.Polynomial.{next, eval, plus, scale, linear, above, vanishing}
 use Rattle.interpolation.specs.Interpolation.{through, fitted, unit, basis, weight, basisTable}
-use Rattle.scheme.specs.Outcome.{accepted, firstOf, answer}
+use Rattle.scheme.specs.Outcome.{accepted, refused, firstOf, answer}
 use Rattle.scheme.specs.BlockLength.{divides, firstFrom, commonMultiple, blockLength}
 use Rattle.scheme.specs.Check.{falls, partiesRefused, thresholdsRefused, countsRefused, blockRefused, refusal, rowsOfCount, rowsOfBlock, blockCount}
 use Rattle.scheme.specs.Readers.{rises, within, readersRefused}
+use Rattle.scheme.specs.Padding.{paddedCount, blocksHeld}
+use Rattle.family.specs.Padding.{lastNonzero, endPlace, endMissing, endRefused}
 use Rattle.family.specs.Exactness.{readings, openedBlocks}
 use Rattle.staircase.specs.Parameters.{parameters, schemeA, point}
 use Rattle.staircase.specs.Coefficients.{groupOf, countOf, originIn, origin}
@@ -21,6 +23,7 @@ use Rattle.staircase.specs.Opening.{upperPart, lowerPart, placed, openedFrom, o
 use Rattle.staircase.specs.Exactness.{prefixBytes, openedString}
 use Rattle.reader.specs.Basis.{basisRefusal, basisAnswer, basisOf}
 use Rattle.reader.specs.Reconstruct.{reconstructRefusal, reconstructAnswer, reconstructOutput}
+use Rattle.reader.specs.ReconstructPadded.{blocksSent, openedPadded, reconstructPaddedRefusal, reconstructPaddedAnswer, reconstructPaddedOutput}
 
 pub examples :
     -- the basis: the scheme before 6, 6 before 7
@@ -44,3 +47,32 @@ pub examples :
     × (reconstructOutput schemeA 1 (1 ∷ 2 ∷ 3 ∷ []) (11 ∷ 31 ∷ 29 ∷ []) (0 ∷ []) ≡ 5 ∷ [])
 unfolding _⊕_ _⊗_ byte.product reduce cut inverse inverseBelow next eval plus scale linear above vanishing through fitted unit basis weight basisTable divides firstFrom commonMultiple blockLength falls partiesRefused thresholdsRefused countsRefused blockRefused firstOf answer refusal rowsOfCount rowsOfBlock blockCount rises within readersRefused occurs distinct tabulate joined readings openedBlocks point groupOf countOf originIn origin upperPart lowerPart placed openedFrom openedBlock prefixBytes openedString basisRefusal basisAnswer basisOf reconstructRefusal reconstructAnswer reconstructOutput
 examples = (refl, refl, refl, refl, refl, refl, refl, refl, refl, refl, refl, refl, refl, refl)
+
+pub padded-examples :
+    -- the opener of padded messages: the scheme before 6, 6 before 7, 7 before 9, 9 before 10, 10 before 11
+    (reconstructPaddedRefusal (parameters 3 1 1 (3 ∷ [])) (1 ∷ []) (9 ∷ 9 ∷ 9 ∷ []) 2 ≡ 3)
+    × (reconstructPaddedRefusal schemeA (4 ∷ []) (9 ∷ 9 ∷ 9 ∷ []) 2 ≡ 6)
+    × (reconstructPaddedRefusal schemeA (2 ∷ 2 ∷ []) (9 ∷ 9 ∷ 9 ∷ []) 2 ≡ 7)
+    × (reconstructPaddedRefusal schemeA (1 ∷ 3 ∷ []) (9 ∷ 9 ∷ 9 ∷ []) 1 ≡ 9)
+    × (reconstructPaddedRefusal schemeA (1 ∷ 2 ∷ 3 ∷ []) (11 ∷ 31 ∷ 29 ∷ []) 1 ≡ 10)
+    -- no prefixes at all; a length that is no multiple
+    × (reconstructPaddedRefusal schemeA (1 ∷ 2 ∷ 3 ∷ []) [] 0 ≡ 9)
+    × (reconstructPaddedRefusal schemeA (1 ∷ 2 ∷ 3 ∷ []) (140 ∷ 53 ∷ 176 ∷ 0 ∷ []) 2 ≡ 9)
+    -- the most blocks, 8193, and one more
+    × (blocksSent schemeA 3 24579 ≡ 8193)
+    × (reconstructPaddedRefusal schemeA (1 ∷ 2 ∷ 3 ∷ []) (replicate 24579 0) 16387 ≡ 10)
+    × (reconstructPaddedRefusal schemeA (1 ∷ 2 ∷ 3 ∷ []) (replicate 24582 0) 16388 ≡ 9)
+    -- one block: 5 and the marker, of three parties and of two; no message; no end, where the output stays
+    × (reconstructPaddedAnswer schemeA (1 ∷ 2 ∷ 3 ∷ []) (140 ∷ 53 ∷ 176 ∷ []) 2 ≡ accepted (3 ∷ 1 ∷ []))
+    × (reconstructPaddedOutput schemeA (1 ∷ 2 ∷ 3 ∷ []) (140 ∷ 53 ∷ 176 ∷ []) (0 ∷ 0 ∷ []) ≡ 5 ∷ 128 ∷ [])
+    × (reconstructPaddedAnswer schemeA (1 ∷ 3 ∷ []) (140 ∷ 132 ∷ 176 ∷ 159 ∷ []) 2 ≡ accepted (4 ∷ 1 ∷ []))
+    × (reconstructPaddedAnswer schemeA (1 ∷ 2 ∷ 3 ∷ []) (137 ∷ 18 ∷ 146 ∷ []) 2 ≡ accepted (3 ∷ 0 ∷ []))
+    × (reconstructPaddedAnswer schemeA (1 ∷ 2 ∷ 3 ∷ []) (11 ∷ 31 ∷ 29 ∷ []) 2 ≡ refused 11)
+    × (reconstructPaddedOutput schemeA (1 ∷ 2 ∷ 3 ∷ []) (11 ∷ 31 ∷ 29 ∷ []) (1 ∷ 2 ∷ []) ≡ 1 ∷ 2 ∷ [])
+    -- two blocks: 5 7 and then the marker; the marker in the first of them alone
+    × (reconstructPaddedAnswer schemeA (1 ∷ 2 ∷ 3 ∷ []) (11 ∷ 132 ∷ 31 ∷ 31 ∷ 29 ∷ 159 ∷ []) 4 ≡ accepted (6 ∷ 2 ∷ []))
+    × (reconstructPaddedAnswer schemeA (1 ∷ 2 ∷ 3 ∷ []) (140 ∷ 4 ∷ 53 ∷ 4 ∷ 176 ∷ 4 ∷ []) 4 ≡ refused 11)
+    -- with two keys a row
+    × (reconstructPaddedAnswer (parameters 4 1 2 (4 ∷ 3 ∷ [])) (1 ∷ 2 ∷ 3 ∷ 4 ∷ []) (136 ∷ 121 ∷ 213 ∷ 4 ∷ []) 2 ≡ accepted (4 ∷ 1 ∷ []))
+unfolding _⊕_ _⊗_ byte.product reduce cut inverse inverseBelow next eval plus scale linear above vanishing through fitted unit basis weight divides firstFrom commonMultiple blockLength falls partiesRefused thresholdsRefused countsRefused blockRefused firstOf answer refusal rowsOfCount rowsOfBlock blockCount rises within readersRefused occurs distinct tabulate joined readings openedBlocks point groupOf countOf originIn origin upperPart lowerPart placed openedFrom openedBlock prefixBytes openedString piece paddedCount blocksHeld lastNonzero endPlace endMissing endRefused blocksSent openedPadded reconstructPaddedRefusal reconstructPaddedAnswer reconstructPaddedOutput
+padded-examples = (refl, refl, refl, refl, refl, refl, refl, refl, refl, refl, refl, refl, refl, refl, refl, refl, refl, refl, refl)

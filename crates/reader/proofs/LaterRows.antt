@@ -17,7 +17,7 @@ use Rattle.lists.proofs.Tests.{lt-or-le}
 use Rattle.interpolation.specs.Interpolation.{side}
 use Rattle.scheme.specs.declared.Scheme.{Scheme}
 use Rattle.scheme.specs.Facts as facts
-use Rattle.scheme.specs.Limits.{maxBlock, maxMessage}
+use Rattle.scheme.specs.Limits.{maxBlock, maxBlocks}
 use Rattle.staircase.specs.Coefficients.{countOf}
 use Rattle.staircase.proofs.Groups.{counts-fall, rows-rise}
 use Rattle.staircase.proofs.Order.{Order, Stands, order}
@@ -72,7 +72,7 @@ module _ {s : Scheme} {ds : List ℕ} {d blocks : ℕ} {prefixes : List ℕ} (I 
   count-high = omega (arith, place-is, A .high place place-low, A .sizes .parties-high)
 
   -- the bytes of a prefix are few
-  pub prefix-few : (P : ℕ) → P ≡ sentRows s d → P * blocks ≤ maxBlock * maxMessage
+  pub prefix-few : (P : ℕ) → P ≡ sentRows s d → P * blocks ≤ maxBlock * maxBlocks
   prefix-few P e = mul-le-mul (rows-few (s .block) (s .z) d P (A .limit) e) (I .blocks-high)
 
   -- every place of the block is an origin, so a buffer that has all origins is B

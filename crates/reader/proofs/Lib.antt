@@ -8,6 +8,8 @@ mod LaterRows
 mod RowOrder
 mod GroupOrder
 mod Reading
+mod EndSearch
 mod OpenerAnswers
+mod PaddedAnswers
 pub mod Examples
 pub mod Laws

@@ -6,7 +6,7 @@ use mathlib.Core.Bool.{true, false}
 use mathlib.Core.List.{List, map}
 use Prim.Native.Nat.{ℕ, _*_, _≤_}
 use native.Mathlib.Omega.{arith}
-use lib.ListN.{length, getD, take, length-map}
+use lib.ListN.{length, getD, length-map}
 use Rattle.lists.specs.Each.{Each, Distinct, Byte, occurs}
 use Rattle.lists.proofs.Each.{getD-map, true-distinct}
 use Rattle.interpolation.specs.Interpolation.{side}
@@ -81,13 +81,17 @@ module _ (s : Scheme) (ds : List ℕ) (S : SchemeIs s (s .n) (s .r) (s .z) ds) (
             ∙ rw (getD-map (point p) parties a 0 0 ha) (part-at p (S .passed) N B K (whole .0) (enough .0) t j ht (omega (arith, few, rw (S .block-is) at hj)) (getD parties a 0)));
       }
 
+  -- the opened blocks are whole
+  pub opened-long : (prefixes : List ℕ) → length (openedString p parties N prefixes) ≡ N * s .block
+  unfolding openedString staircase
+  opened-long prefixes = rw (S .block-is) (exact p (S .passed) parties counted (right .0) (right .1) N .bytes prefixes .0)
+
   -- so what the reader's loops say of the blocks that were sent holds of the opened blocks
   pub begins : (prefixes : List ℕ) → length prefixes ≡ sentBytes s d N → Each Byte prefixes
       → (points : List ℕ) (weights : List (List ℕ)) → points ≡ points-of → weights ≡ openingTable points (getD ds 0 0)
-      → (message : ℕ) (out : List ℕ) → EachSent s ds d N weights prefixes (λ B. out ≡ take message B)
-      → out ≡ take message (openedString p parties N prefixes)
+      → (Says : List ℕ → Type 0) → EachSent s ds d N weights prefixes Says → Says (openedString p parties N prefixes)
   unfolding openedString staircase
-  begins prefixes long bytes points weights points-are weights-are message out E =
+  begins prefixes long bytes points weights points-are weights-are Says E =
       let X = exact p (S .passed) parties counted (right .0) (right .1) N in
       let found = X .exists prefixes (rw (S .block-is) at long, bytes) in
       E (openedString p parties N prefixes) (found .0) points-of (rw (weights-are, points-are) (weights-of (getD ds 0 0) first-most))

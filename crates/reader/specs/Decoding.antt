@@ -5,7 +5,7 @@ use mathlib.Core.Path.{_≡_}
 use mathlib.Core.Bool.{true}
 use mathlib.Core.List.{List, []}
 use Prim.Native.Nat.{ℕ, zero, suc, _+_, _-_, _*_, _≤_, _<_}
-use lib.ListN.{length, getD, take}
+use lib.ListN.{length, getD}
 use Rattle.lists.specs.Each.{Each, Distinct, Byte, occurs}
 use Rattle.lists.specs.Table.{tabulate}
 use Rattle.gf256.specs.Byte.{_⊗_}
@@ -15,7 +15,7 @@ use Rattle.interpolation.specs.Interpolation.{side, basis}
 use Rattle.interpolation.specs.Opening.{remainder}
 use Rattle.scheme.specs.declared.Scheme.{Scheme}
 use Rattle.scheme.specs.Facts.{SchemeIs}
-use Rattle.scheme.specs.Limits.{maxBlock, maxMessage}
+use Rattle.scheme.specs.Limits.{maxBlock, maxBlocks}
 use Rattle.scheme.specs.Check.{rowsOfCount}
 use Rattle.family.specs.Message.{Bytes}
 use Rattle.staircase.specs.Coefficients.{countOf, origin, coefficientAt}
@@ -61,7 +61,7 @@ pub record SizesFit (sizes : Sizes) (prefixes : List ℕ) : Type 0 where
   pub z-low : sizes .z ≤ sizes .d
   pub d-high : sizes .d ≤ side
   pub block-high : sizes .block ≤ maxBlock
-  pub blocks-high : sizes .blocks ≤ maxMessage
+  pub blocks-high : sizes .blocks ≤ maxBlocks
   pub prefixes-long : length prefixes ≡ sizes .d * sizes .prefix
 
 -- a row of `top` coefficients, with their places in the block by degree, whose bytes stand from place q on in each prefix
@@ -129,7 +129,7 @@ groupBytes s ds d blocks g = d * ((rowsBefore s ds (g + 1) - rowsBefore s ds g) 
 pub record Input (s : Scheme) (ds : List ℕ) (d blocks : ℕ) (prefixes : List ℕ) : Type 0 where
   pub scheme : SchemeIs s (s .n) (s .r) (s .z) ds
   pub count : occurs d ds ≡ true
-  pub blocks-high : blocks ≤ maxMessage
+  pub blocks-high : blocks ≤ maxBlocks
   pub prefixes-long : length prefixes ≡ sentBytes s d blocks
 
 -- B are whole blocks and K their keys, of which these are the prefixes at these points
@@ -155,8 +155,3 @@ Found s ds d blocks g B w =
 abbrev pub GroupFound : Scheme → List ℕ → ℕ → ℕ → ℕ → List (List ℕ) → List ℕ → List ℕ → List ℕ → Type 0
 GroupFound s ds d blocks g weights prefixes w w′ =
     EachSent s ds d blocks weights prefixes (λ B. Found s ds d blocks (g + 1) B w → Found s ds d blocks g B w′)
-
--- the output became the beginning of what was sent
-abbrev pub OpensTo : Scheme → List ℕ → ℕ → ℕ → List (List ℕ) → List ℕ → List ℕ → List ℕ → Type 0
-OpensTo s ds d blocks weights prefixes before after =
-    EachSent s ds d blocks weights prefixes (λ B. after ≡ take (length before) B)

@@ -9,7 +9,7 @@ use native.Mathlib.Omega.{arith}
 use lib.ListN.{length, getD}
 use borrow.Author.Needs.{needs}
 use Rattle.lists.proofs.Joined.{row-room, place-on}
-use Rattle.scheme.specs.Limits.{maxBlock, maxMessage}
+use Rattle.scheme.specs.Limits.{maxBlock, maxBlocks}
 use Rattle.reader.specs.Decoding.{combined, Solved}
 use Rattle.reader.proofs.Writes.{solved-none, solved-degree}
 use Rattle.reader.proofs.RowStep.{batch-step}
@@ -28,9 +28,9 @@ abbrev μ-loop : tie.MeasureT-loop
 abbrev start : tie.After-slice-known4 Inv-loop μ-loop → tie.Start Inv-loop μ-loop
 start c = c .before .before .before .before .before .before .before .before .before .before .before .before .before
 
-small : (s : tie.Start Inv-loop μ-loop) → s .args .t * s .args .sizes .block ≤ maxMessage * maxBlock
+small : (s : tie.Start Inv-loop μ-loop) → s .args .t * s .args .sizes .block ≤ maxBlocks * maxBlock
 small s =
-    let h : s .args .t ≤ maxMessage = omega (arith, s .pre .1 .1, s .pre .0 .0 .blocks-high) in
+    let h : s .args .t ≤ maxBlocks = omega (arith, s .pre .1 .1, s .pre .0 .0 .blocks-high) in
     mul-le-mul h (s .pre .0 .0 .block-high)
 
 near : (c : tie.In-loop Inv-loop μ-loop)

@@ -1,11 +1,11 @@
 -- `reader::opening::open` meets its contract: the parties are at most 16, the blocks fit in the buffer that is taken, the small or the large one, and
 -- the opened blocks have these prefixes, by proofs/Reading.antt.
 -- Assumes nothing.
-use mathlib.Core.Path.{_≡_, sym}
+use mathlib.Core.Path.{sym}
 use mathlib.Core.List.{List}
-use Prim.Native.Nat.{ℕ, _+_, _*_, _≤_}
+use Prim.Native.Nat.{ℕ, _+_, _≤_}
 use native.Mathlib.Omega.{arith}
-use lib.ListN.{length, take, length-replicate}
+use lib.ListN.{length, length-replicate}
 use lib.Seq.{length-take-le}
 use borrow.Author.Needs.{needs}
 use Rattle.lists.specs.Each.{Byte}
@@ -14,11 +14,10 @@ use Rattle.interpolation.specs.Interpolation.{side}
 use Rattle.scheme.specs.Limits.{maxBlock, maxMessage}
 use Rattle.staircase.specs.Parameters.{Parameters, parameters}
 use Rattle.staircase.specs.Exactness.{openedString}
-use Rattle.staircase.proofs.Sizes.{count-most, blocks-few}
+use Rattle.staircase.proofs.Sizes.{count-most}
 use Rattle.rows.proofs.Points.{points-are}
 use Rattle.reader.specs.Decoding.{Input, EachSent}
 use Rattle.reader.proofs.LaterRows.{A}
-use Rattle.reader.proofs.OpenerAnswers.{covers, fits-buffer}
 use Rattle.reader.proofs.Reading.{begins}
 use Rattle.reader.proofs.opening.open.Statement.{statement}
 use Rattle.reader.proofs.opening.open.Tie as tie
@@ -39,30 +38,23 @@ module _ (c : tie.After-slice-known) where
       record {
         scheme = st .pre .0 .0;
         count = st .pre .0 .1;
-        blocks-high = blocks-few p (st .args .s) (st .pre .0 .0) _ (st .args .blocks) (st .pre .1 .1) (st .pre .1 .0);
-        prefixes-long = st .pre .1 .2;
+        blocks-high = st .pre .1 .blocks-high;
+        prefixes-long = st .pre .1 .prefixes-long;
       }
 
-  -- the blocks fit in the large buffer, and hold the message
-  fits : st .args .blocks * st .args .s .block ≤ maxMessage + maxBlock
-  fits = fits-buffer p (st .args .s) (st .pre .0 .0) _ (st .args .blocks) (st .pre .1 .1) (st .pre .1 .0)
-
-  covered : length (st .args .out .now) ≤ st .args .blocks * st .args .s .block
-  covered = covers p (st .args .s) (st .pre .0 .0) _ (st .args .blocks) (st .pre .1 .1) (st .pre .1 .0)
-
 -- what is said of the blocks that were sent, with these weights, holds of the opened ones
-opened : (c : tie.After-opening-weights) (out : List ℕ)
+opened : (c : tie.After-opening-weights) (Says : List ℕ → Type 0)
     → let k = c .before .before .before .before in
     let a = st k .args in
-    EachSent (a .s) (a .counts .now) (length (a .parties .now)) (a .blocks) (c .opening-weights .result) (a .prefixes .now) (λ B. out ≡ take (length (a .out .now)) B)
-    → out ≡ take (length (a .out .now)) (openedString (p k) (a .parties .now) (a .blocks) (a .prefixes .now))
-opened c out E =
+    EachSent (a .s) (a .counts .now) (length (a .parties .now)) (a .blocks) (c .opening-weights .result) (a .prefixes .now) Says
+    → Says (openedString (p k) (a .parties .now) (a .blocks) (a .prefixes .now))
+opened c Says E =
     let o = c .before .before .before in
     let k = o .before in
     let s = st k in
     let a = s .args in
     let bytes = each-of Byte (a .prefixes .now) 0 (λ i l. k .before .shared-slice-known3 .given i .fits) in
-    begins (a .s) _ (s .pre .0 .0) (a .parties .now) (s .pre .0 .1) (s .pre .0 .2) (a .blocks) (a .prefixes .now) (s .pre .1 .2) bytes _ _ (points-are _ _ _ (o .points-of .ensures _) (few k)) (c .opening-weights .ensures) (length (a .out .now)) out E
+    begins (a .s) _ (s .pre .0 .0) (a .parties .now) (s .pre .0 .1) (s .pre .0 .2) (a .blocks) (a .prefixes .now) (s .pre .1 .prefixes-long) bytes _ _ (points-are _ _ _ (o .points-of .ensures _) (few k)) (c .opening-weights .ensures) Says E
 
 pub open-spec : {M : Type 1} → statement M
 open-spec =
@@ -74,12 +66,12 @@ open-spec =
     (λ c. omega (arith, A (input (c .before .before .before)) .some))
     (λ c. omega (arith, c .shared-slice-known4 .given 0))
     (λ c κs. search needs)
-    (λ c. omega (arith, fits (c .before .before .before .before .before)))
+    (λ c. omega (arith, st (c .before .before .before .before .before) .pre .1 .room))
     (λ c. search needs)
     (λ c κs.
     let i = c .before .before in
     let k = i .before .before .before .before .before .before in
-    (input k, omega (arith, i .if1 .taken, length-replicate {A = ℕ} 2048 0), covered k))
+    (input k, omega (arith, i .if1 .taken, length-replicate {A = ℕ} 2048 0), st k .pre .1 .covered, st k .pre .1 .block))
     (λ c. search needs)
     (λ c.
     let f = c .before .before .before in
@@ -87,7 +79,7 @@ open-spec =
     (λ c. search needs)
     (λ c κs.
     let k = c .before .before .before .before .before .before .before .before in
-    (input k, omega (arith, fits k, length-replicate {A = ℕ} (maxMessage + maxBlock) 0), covered k))
+    (input k, omega (arith, st k .pre .1 .room, length-replicate {A = ℕ} (maxMessage + maxBlock) 0), st k .pre .1 .covered, st k .pre .1 .block))
     (λ c. search needs)
     (λ c.
     let f = c .before .before .before in
