@@ -9,10 +9,13 @@ use Rattle.lists.specs.Table.{tabulate}
 use Rattle.interpolation.specs.Interpolation.{side}
 use Rattle.staircase.specs.Parameters.{Parameters}
 use Rattle.dealer.specs.Split.{splitAnswer, splitOutput}
+use Rattle.dealer.specs.SplitPadded.{splitPaddedAnswer, splitPaddedOutput}
 use Rattle.reader.specs.Basis.{basisRefusal, basisOf}
 use Rattle.reader.specs.Reconstruct.{reconstructAnswer, reconstructOutput}
+use Rattle.reader.specs.ReconstructPadded.{reconstructPaddedAnswer, reconstructPaddedOutput}
 use Rattle.exports.specs.declared.SharingScheme.{SharingScheme}
 use Rattle.exports.specs.declared.SharingAnswer.{SharingAnswer}
+use Rattle.exports.specs.declared.padded.SharingPaddedAnswer.{SharingPaddedAnswer}
 use Rattle.exports.specs.declared.SharingBasis.{SharingBasis}
 
 abbrev pub schemeFields : SharingScheme → List ℕ
@@ -29,6 +32,13 @@ answerFields a = a .refusal ∷ a .value ∷ []
 abbrev pub valueFields : Outcome → List ℕ
 valueFields o = o .number ∷ getD (o .values) 0 0 ∷ []
 
+-- of the opener of padded messages: the prefix bytes used, and the message's length
+abbrev pub paddedFields : SharingPaddedAnswer → List ℕ
+paddedFields a = a .refusal ∷ a .used ∷ a .length ∷ []
+
+abbrev pub openedFields : Outcome → List ℕ
+openedFields o = o .number ∷ getD (o .values) 0 0 ∷ getD (o .values) 1 0 ∷ []
+
 -- a table of 16 rows of 16 bytes, row after row
 unfoldable pub flattened : List (List ℕ) → List ℕ
 flattened table = tabulate (side * side) (λ k. getD (getD table (k / side) []) (k % side) 0)
@@ -42,6 +52,16 @@ abbrev pub ReconstructFields : Parameters → ℕ → List ℕ → List ℕ → 
 ReconstructFields p message parties prefixes before a after =
     (answerFields a ≡ valueFields (reconstructAnswer p message parties (length prefixes) (length before)))
     × (after ≡ reconstructOutput p message parties prefixes before)
+
+-- and those on padded messages
+abbrev pub SplitPaddedFields : Parameters → List ℕ → List ℕ → List ℕ → SharingAnswer → List ℕ → Type 0
+SplitPaddedFields p message keys before a after =
+    (answerFields a ≡ valueFields (splitPaddedAnswer p (length message) (length keys) (length before))) × (after ≡ splitPaddedOutput p message keys before)
+
+abbrev pub ReconstructPaddedFields : Parameters → List ℕ → List ℕ → List ℕ → SharingPaddedAnswer → List ℕ → Type 0
+ReconstructPaddedFields p parties prefixes before a after =
+    (paddedFields a ≡ openedFields (reconstructPaddedAnswer p parties prefixes (length before)))
+    × (after ≡ reconstructPaddedOutput p parties prefixes before)
 
 abbrev pub BasisFields : Parameters → List ℕ → SharingBasis → Type 0
 BasisFields p parties a = (a .refusal ≡ basisRefusal p parties) × (a .weights ≡ flattened (basisOf p parties))

@@ -1,5 +1,5 @@
 // The C boundary. A slice is a pointer and a length; an answer is a struct whose `refusal` is 0 when
-// the call is accepted.
+// the call is accepted. Those on padded messages stand in `padded`.
 ghost use mathlib.Core.Path.{_≡_};
 ghost use Rattle.gf256.specs.Byte.{_⊕_, _⊗_, inverse};
 ghost use Rattle.scheme.specs.Limits.{defaultN, defaultR, defaultZ, defaultCounts};
@@ -12,6 +12,8 @@ ghost use Rattle.exports.specs.Fields.{schemeFields, checkedFields, answ
 use interpolation::SIDE;
 use scheme::SchemeAnswer;
 use sharing::Answer;
+
+mod padded;
 
 #[repr(C)]
 pub struct SharingScheme {
@@ -94,7 +96,7 @@ fn scheme_fields(answer: SchemeAnswer) -> SharingScheme
     }
 }
 
-fn fields(answer: Answer) -> SharingAnswer
+pub(crate) fn fields(answer: Answer) -> SharingAnswer
     ensures { λ a. ⌜ answerFields a ≡ valueFields (outcome answer) ⌝ }
 {
     match answer {

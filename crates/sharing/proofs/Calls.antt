@@ -96,7 +96,7 @@ default-reconstruct-in-words = reconstruct-in-words defaultParameters
 -- ---- the words settle a call
 
 -- no two answers fit the same lines and value
-one-answer : {grounds : List Ground} {v : ℕ} (a a′ : Answer) → AnsweredBy grounds v a → AnsweredBy grounds v a′ → a ≡ a′
+pub one-answer : {grounds : List Ground} {v : ℕ} (a a′ : Answer) → AnsweredBy grounds v a → AnsweredBy grounds v a′ → a ≡ a′
 one-answer (Value w) a′ A A′ =
     let other = A′ .accepts .1 (A .accepts .0 (w, refl)) in
     ap Value (A .value-is w refl ∙ sym (A′ .value-is (other .0) (other .1))) ∙ sym (other .1)
@@ -108,7 +108,7 @@ one-split : (p : Parameters) (message keys before : List ℕ) (a : Answer) (afte
 one-split p message keys before (Value bytes) after after′ W W′ = W .0 ∙ sym (W′ .0)
 one-split p message keys before (Refused number) after after′ W W′ = W ∙ sym W′
 
-one-part : (share : List ℕ) (a : Answer) (part part′ : List ℕ) → HandsBack share a part → HandsBack share a part′ → part ≡ part′
+pub one-part : (share : List ℕ) (a : Answer) (part part′ : List ℕ) → HandsBack share a part → HandsBack share a part′ → part ≡ part′
 one-part share (Value bytes) part part′ H H′ = H .0 ∙ sym (H′ .0)
 one-part share (Refused number) part part′ H H′ = H ∙ sym H′
 

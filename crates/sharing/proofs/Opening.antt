@@ -16,6 +16,7 @@ use Rattle.scheme.proofs.Laws.{accepted, first-none, first-if, told-accepted, t
 use Rattle.family.proofs.Message.{blocks-cover}
 use Rattle.staircase.specs.Parameters.{Parameters, AcceptedScheme, defaultParameters, block, prefixRows, blocksOf}
 use Rattle.staircase.specs.Exactness.{prefixBytes, openedString, Opened}
+use Rattle.staircase.proofs.Sizes.{block-some}
 use Rattle.staircase.proofs.WholeBlocks.{exactness}
 use Rattle.reader.specs.Reconstruct.{reconstructRefusal, reconstructAnswer, reconstructOutput}
 use Rattle.sharing.specs.Opening.{ExactCalls}
@@ -49,7 +50,7 @@ read p message parties prefixes out e =
     }
 
 -- P × (d − z) = m for each count d
-rows-of : (p : Parameters) → AcceptedScheme p → (d : ℕ) → occurs d (p .counts) ≡ true → prefixRows p d * (d - p .z) ≡ block p
+pub rows-of : (p : Parameters) → AcceptedScheme p → (d : ℕ) → occurs d (p .counts) ≡ true → prefixRows p d * (d - p .z) ≡ block p
 rows-of p A d count =
     let at = occurs-place d (p .counts) count in
     rw (at .2) at (accepted (p .n) (p .r) (p .z) (p .counts) A .rows-of-count (at .0) (at .1))
@@ -61,12 +62,11 @@ exact-calls p message parties prefixes before (Value used) after bytes C =
     let r = read p message parties (length prefixes) (length before) (told .0) in
     let right = parties-distinct (p .n) parties (r .rising) in
     let opened : Opened p message parties prefixes = exactness p (r .good) message (r .short) parties (r .count) (right .0) (right .1) prefixes (r .long, bytes) in
-    let positive = accepted (p .n) (p .r) (p .z) (p .counts) (r .good) .least .positive in
     let output : after ≡ take message (openedString p parties (blocksOf p message) prefixes) = C .1 ∙ rw (told .0) in
     record {
       opened = opened;
       output = output;
-      long = ap length output ∙ length-take-le message _ (rw (opened .bytes .0) (blocks-cover (block p) message positive));
+      long = ap length output ∙ length-take-le message _ (rw (opened .bytes .0) (blocks-cover (block p) message (block-some p (r .good))));
       used-is = told .1;
       used-all = told .1 ∙ sym (r .long);
       rows-of-count = rows-of p (r .good) (length parties) (r .count);

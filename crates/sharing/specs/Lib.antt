@@ -2,4 +2,8 @@ pub mod Secrecy
 pub mod RoundTrip
 pub mod Opening
 pub mod Calls
+pub mod PaddedSecrecy
+pub mod PaddedOpening
+pub mod PaddedRoundTrip
+pub mod PaddedCalls
 pub mod Starred

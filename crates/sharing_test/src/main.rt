@@ -3,6 +3,7 @@
 mod bases;
 mod lent;
 mod openings;
+mod padded;
 mod prefixes;
 mod printing;
 mod splits;
@@ -23,4 +24,7 @@ fn main() {
     openings::of_groups();
     openings::refused();
     openings::refused_twice();
+    padded::splits();
+    padded::prefixes();
+    padded::openings();
 }
