@@ -5,9 +5,16 @@
  * A scheme is n parties, of which r may be absent and z may collude, and a falling list of counts:
  * the numbers of parties from which a message can be reconstructed. With d parties, d one of the
  * counts, each sends the first m / (d - z) x N bytes of its share, its prefix. Here m is the length of
- * a block, b = m / (n - r - z) the number of its rows, and N = L / m, rounded up, the number of blocks
- * of a message of L bytes. The last block is padded with zeros. L is not in the shares: the caller
- * keeps it.
+ * a block, b = m / (n - r - z) the number of its rows, and N the number of blocks of the message.
+ *
+ * A message of L bytes has one of two forms, which differ in their padding:
+ *
+ * - Padded, for the calls whose names have `_padded`, it knows its own end. A byte 128 follows it, and
+ *   zeros up to the end of that byte's block, also where the message alone would fill its blocks:
+ *   N = L / m (rounded down) + 1. Who reads it needs no L: N follows from the length of a share or of
+ *   prefixes, and opening answers L.
+ * - In the earlier form, kept for shares from before there was the other, zeros follow it where the
+ *   last block is not full: N = L / m (rounded up). L is not in the shares: the caller keeps it.
  *
  * Every call has a form whose name ends in `_default`, without the scheme's parameters, for the
  * scheme n 5, r 2, z 1, counts 5, 4, 3.
@@ -24,18 +31,22 @@
  *    6  the number of parties to read from, d, is not one of the counts
  *    7  the parties do not rise strictly, or one is not from 1 to n
  *    8  the keys do not have N x z x b bytes
- *    9  the share does not have N x b bytes, or the prefixes together d x m / (d - z) x N
+ *    9  the share does not have N x b bytes, or the prefixes together d x m / (d - z) x N; of a padded
+ *       message: no N from 1 to 16,384 / m (rounded down) + 1 gives this length
  *   10  the output does not have the length that the call writes
+ *   11  the prefixes do not end as a padded message of at most 16,384 bytes does: in the last block the
+ *       last byte other than 0 is not 128, or there is none, or it stands too late. A wrong share, scheme
+ *       or party, prefixes for another number of parties, or shares of the earlier form
  *
  * What the caller owes, since nothing here can check it: a pointer is not NULL; as many bytes as its
  * length says stand behind it, and no other thread changes them during the call; `out` does not overlap
  * what the call reads. Keys are to be drawn evenly at random, kept as secret as the message, and used
  * for one message only: the library draws none.
  *
- * The library has three operations more in Rattle: the prefix as a part of the lent share, which in C is
- * the share's own pointer with the length that sharing_prefix answers; the size of a basis, whose
- * refusal stands here beside the table, since a struct holds both; and the text of a scheme's sheet,
- * which the program scheme_sheet prints.
+ * The library has four operations more in Rattle: the prefix as a part of the lent share, in either form
+ * of message, which in C is the share's own pointer with the length that sharing_prefix or
+ * sharing_prefix_padded answers; the size of a basis, whose refusal stands here beside the table, since
+ * a struct holds both; and the text of a scheme's sheet, which the program scheme_sheet prints.
  */
 #ifndef SHARING_H
 #define SHARING_H
@@ -60,6 +71,13 @@ typedef struct {
     uint64_t value;
 } sharing_answer;
 
+/* An opened padded message: the number of prefix bytes used, and the length L of the message. */
+typedef struct {
+    uint64_t refusal;
+    uint64_t used;
+    uint64_t length;
+} sharing_padded_answer;
+
 /* The weight of the party at place i of the list (from 0) at degree e is weights[16 * i + e]. */
 typedef struct {
     uint64_t refusal;
@@ -73,8 +91,53 @@ sharing_scheme sharing_check(uint8_t n, uint8_t r, uint8_t z, const uint8_t *cou
 sharing_scheme sharing_check_default(void);
 
 /*
- * Splits a message: writes the n shares of N x b bytes into `out`, one after another, party 1 first.
- * `value` is the length of one share. Refusals 1 to 5, 8 and 10 (`out` has n x N x b bytes).
+ * Splits a message, which is padded: writes the n shares of N x b bytes into `out`, one after another,
+ * party 1 first. `value` is the length of one share. Refusals 1 to 5, 8 and 10 (`out` has n x N x b
+ * bytes).
+ */
+sharing_answer sharing_split_padded(
+    uint8_t n, uint8_t r, uint8_t z, const uint8_t *counts, size_t counts_length,
+    const uint8_t *message, size_t message_length, const uint8_t *keys, size_t keys_length,
+    uint8_t *out, size_t out_length);
+
+/* The same with the default scheme. Refusals 5, 8 and 10. */
+sharing_answer sharing_split_padded_default(
+    const uint8_t *message, size_t message_length, const uint8_t *keys, size_t keys_length,
+    uint8_t *out, size_t out_length);
+
+/*
+ * What one party sends of a padded message when d parties are read from: the first `value` bytes of
+ * its share, which is lent whole. Refusals 1 to 4, 6 and 9.
+ */
+sharing_answer sharing_prefix_padded(
+    uint8_t n, uint8_t r, uint8_t z, const uint8_t *counts, size_t counts_length,
+    size_t d, const uint8_t *share, size_t share_length);
+
+/* The same with the default scheme. Refusals 6 and 9. */
+sharing_answer sharing_prefix_padded_default(size_t d, const uint8_t *share, size_t share_length);
+
+/*
+ * Reconstructs a padded message from the prefixes of the parties, which are bytes in rising order; the
+ * prefixes stand one after another in the parties' order. `out` has N x m bytes and receives whole
+ * blocks: the message, of `length` bytes, and its padding. `used` is the number of prefix bytes used,
+ * d x m / (d - z) x N. Refusals 1 to 4, 6, 7, 9, 10 and 11, in this order. 11 is no check of the rest:
+ * false bytes in other blocks always open, and a false last block may, also where the prefixes are those
+ * for another number of parties. Shares of the earlier form open too where their message ends in 128, or
+ * in 128 and zeros; `length` is then too short.
+ */
+sharing_padded_answer sharing_reconstruct_padded(
+    uint8_t n, uint8_t r, uint8_t z, const uint8_t *counts, size_t counts_length,
+    const uint8_t *parties, size_t parties_length, const uint8_t *prefixes, size_t prefixes_length,
+    uint8_t *out, size_t out_length);
+
+/* The same with the default scheme. Refusals 6, 7, 9, 10 and 11. */
+sharing_padded_answer sharing_reconstruct_padded_default(
+    const uint8_t *parties, size_t parties_length, const uint8_t *prefixes, size_t prefixes_length,
+    uint8_t *out, size_t out_length);
+
+/*
+ * Splits a message in the earlier form: as sharing_split_padded, with the earlier form's N. Refusals 1
+ * to 5, 8 and 10 (`out` has n x N x b bytes).
  */
 sharing_answer sharing_split(
     uint8_t n, uint8_t r, uint8_t z, const uint8_t *counts, size_t counts_length,
@@ -87,8 +150,8 @@ sharing_answer sharing_split_default(
     uint8_t *out, size_t out_length);
 
 /*
- * What one party sends when d parties are read from: the first `value` bytes of its share, which is
- * lent whole. Refusals 1 to 6 and 9.
+ * What one party sends of a message of message_length bytes in the earlier form: as
+ * sharing_prefix_padded. Refusals 1 to 6 and 9.
  */
 sharing_answer sharing_prefix(
     uint8_t n, uint8_t r, uint8_t z, const uint8_t *counts, size_t counts_length,
@@ -110,11 +173,11 @@ sharing_basis_answer sharing_basis(
 sharing_basis_answer sharing_basis_default(const uint8_t *parties, size_t parties_length);
 
 /*
- * Reconstructs a message of message_length bytes into `out` from the prefixes of the parties, which
- * are bytes in rising order; the prefixes stand one after another in the parties' order. `value` is
- * the number of prefix bytes used, d x m / (d - z) x N. Prefixes of the right length always open: the
- * call cannot tell a false byte from a true one. Refusals 1 to 7, 9 and 10 (`out` has message_length
- * bytes).
+ * Reconstructs a message of message_length bytes in the earlier form into `out` from the prefixes of
+ * the parties, which are bytes in rising order; the prefixes stand one after another in the parties'
+ * order. `value` is the number of prefix bytes used, d x m / (d - z) x N. Prefixes of the right length
+ * always open: the call cannot tell a false byte from a true one. Refusals 1 to 7, 9 and 10 (`out` has
+ * message_length bytes).
  */
 sharing_answer sharing_reconstruct(
     uint8_t n, uint8_t r, uint8_t z, const uint8_t *counts, size_t counts_length,

@@ -24,10 +24,12 @@ static void expect(int holds, const char *what, int line) {
 static const uint8_t counts[] = {5, 4};
 static const uint8_t message[] = {5, 7, 1, 255, 16}, keys[] = {9, 4, 2, 6, 200, 33};
 static const uint8_t shares[] = {14, 235, 232, 61, 95, 142, 40, 214, 174, 137, 31, 92, 226, 173, 124};
+static const uint8_t padded_shares[] = {14, 107, 104, 61, 135, 226, 40, 142, 111, 137, 48, 17, 226, 2, 95};
 static const uint8_t four[] = {1, 2, 4, 5};
 
 static void sizes(void) {
     EXPECT(sizeof(sharing_scheme) == 24 && sizeof(sharing_answer) == 16 && sizeof(sharing_basis_answer) == 264);
+    EXPECT(sizeof(sharing_padded_answer) == 24);
     EXPECT(sizeof ((sharing_basis_answer *)0)->weights == 256);
 }
 
@@ -54,6 +56,8 @@ static void splits(void) {
     uint8_t out[15];
     sharing_answer a = sharing_split(5, 1, 2, counts, 2, message, 5, keys, 6, out, 15);
     EXPECT(a.refusal == 0 && a.value == 3 && memcmp(out, shares, 15) == 0);
+    a = sharing_split_padded(5, 1, 2, counts, 2, message, 5, keys, 6, out, 15);
+    EXPECT(a.refusal == 0 && a.value == 3 && memcmp(out, padded_shares, 15) == 0);
 }
 
 static void prefixes(void) {
@@ -61,6 +65,10 @@ static void prefixes(void) {
     EXPECT(a.refusal == 0 && a.value == 2);
     a = sharing_prefix(5, 1, 2, counts, 2, 5, 4, shares, 3);
     EXPECT(a.refusal == 0 && a.value == 3);
+    a = sharing_prefix_padded(5, 1, 2, counts, 2, 5, padded_shares, 3);
+    EXPECT(a.refusal == 0 && a.value == 2);
+    a = sharing_prefix_padded(5, 1, 2, counts, 2, 4, padded_shares, 15);
+    EXPECT(a.refusal == 0 && a.value == 15);
 }
 
 /* Turned over, the table would be another. */
@@ -82,6 +90,17 @@ static void openings(void) {
     EXPECT(a.refusal == 0 && a.value == 12 && memcmp(again, message, 5) == 0);
 }
 
+static void padded_openings(void) {
+    const uint8_t of_four[] = {14, 107, 104, 61, 135, 226, 137, 48, 17, 226, 2, 95};
+    const uint8_t of_earlier[] = {14, 235, 232, 61, 95, 142, 137, 31, 92, 226, 173, 124};
+    uint8_t opened[6] = {0};
+    sharing_padded_answer a = sharing_reconstruct_padded(5, 1, 2, counts, 2, four, 4, of_four, 12, opened, 6);
+    EXPECT(a.refusal == 0 && a.used == 12 && a.length == 5 && memcmp(opened, message, 5) == 0 && opened[5] == 128);
+    memset(opened, 7, 6);
+    a = sharing_reconstruct_padded(5, 1, 2, counts, 2, four, 4, of_earlier, 12, opened, 6);
+    EXPECT(a.refusal == 11 && a.used == 0 && a.length == 0 && opened[0] == 7 && opened[5] == 7);
+}
+
 /* Of two refusals that apply the first is answered, alone, and the output stays as it was. */
 static void two_refusals(void) {
     const uint8_t falling[] = {5, 4, 2, 1};
@@ -100,6 +119,12 @@ static void two_refusals(void) {
     EXPECT(a.refusal == 7 && a.value == 0 && memcmp(out, before, 14) == 0);
     a = sharing_reconstruct(5, 1, 2, counts, 2, 5, four, 4, shares, 11, out, 4);
     EXPECT(a.refusal == 9 && a.value == 0 && memcmp(out, before, 14) == 0);
+    a = sharing_split_padded(5, 1, 2, counts, 2, message, 5, keys, 5, out, 14);
+    EXPECT(a.refusal == 8 && a.value == 0 && memcmp(out, before, 14) == 0);
+    a = sharing_prefix_padded(5, 1, 2, counts, 2, 3, shares, 2);
+    EXPECT(a.refusal == 6 && a.value == 0);
+    sharing_padded_answer p = sharing_reconstruct_padded(5, 1, 2, counts, 2, four, 4, shares, 12, out, 5);
+    EXPECT(p.refusal == 10 && p.used == 0 && p.length == 0 && memcmp(out, before, 14) == 0);
 }
 
 static void default_scheme(void) {
@@ -120,6 +145,20 @@ static void default_scheme(void) {
     EXPECT(refused.refusal == 7 && refused.weights[0] == 0);
 }
 
+/* Twelve bytes fill a block, and make two blocks when they are padded. */
+static void padded_by_default(void) {
+    const uint8_t text[] = "A few words", two_blocks_keys[12] = {1, 2, 3}, three[] = {1, 2, 4};
+    uint8_t out[60], prefixes[36], opened[24];
+    sharing_answer a = sharing_split_padded_default(text, 12, two_blocks_keys, 12, out, 60);
+    EXPECT(a.refusal == 0 && a.value == 12);
+    a = sharing_prefix_padded_default(5, out, 12);
+    EXPECT(a.refusal == 0 && a.value == 6);
+    memcpy(prefixes, out, 24);
+    memcpy(prefixes + 24, out + 36, 12);
+    sharing_padded_answer p = sharing_reconstruct_padded_default(three, 3, prefixes, 36, opened, 24);
+    EXPECT(p.refusal == 0 && p.used == 36 && p.length == 12 && memcmp(opened, text, 12) == 0 && opened[12] == 128);
+}
+
 int main(void) {
     sizes();
     arithmetic();
@@ -128,7 +167,9 @@ int main(void) {
     prefixes();
     bases();
     openings();
+    padded_openings();
     two_refusals();
     default_scheme();
+    padded_by_default();
     return failures != 0;
 }

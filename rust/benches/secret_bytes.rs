@@ -6,15 +6,26 @@
 //!
 //! No complaint is to come. With the argument `control` the product by tables is called too, whose table index is a
 //! secret byte, and a complaint has to come.
+//!
+//! One answer is made of secret bytes and for all to see: where a padded message ends, or that it has no end. The opener
+//! reads the whole last block for it and decides on the result alone. So in the run above that one block is not marked in
+//! the prefixes that this opener is lent. In another run it is, and then the decision, and nothing besides, is to be
+//! complained about:
+//!
+//!     valgrind rust/target/release/deps/secret_bytes-(hash) end
+//!
+//! Here the complaints are counted, and the exit status is 0 if each opening had one or two: is there an end, and is it
+//! too late? A branch on the bytes themselves would bring more, the longer the block the more of them.
 
-use gilunavoi::cases::{length, parties, Call, Scheme};
-use gilunavoi::library;
+use gilunavoi::cases::{length, parties, Call, Form, Scheme, FORMS};
 use gilunavoi::random::Random;
+use gilunavoi::{calls, library};
 use std::arch::asm;
 
 const MAKE_UNDEFINED: u64 = 0x4d43_0001;
 const MAKE_DEFINED: u64 = 0x4d43_0002;
 const RUNNING_ON_VALGRIND: u64 = 0x1001;
+const COUNT_ERRORS: u64 = 0x1201;
 
 /// Valgrind's client request, instructions that do nothing elsewhere.
 fn request(number: u64, bytes: &[u8]) -> u64 {
@@ -29,36 +40,87 @@ fn request(number: u64, bytes: &[u8]) -> u64 {
     answer
 }
 
-/// Splits a secret message under secret keys, and opens secret prefixes.
-fn split_and_reconstruct(call: &Call, random: &mut Random) {
-    let s = &call.scheme;
-    let (message, keys, prefixes) = (random.bytes(call.length), random.bytes(call.keys), random.bytes(call.prefixes));
-    let (mut shares, mut opened) = (vec![0; call.shares], vec![0; call.length]);
-    for secret in [&message, &keys, &prefixes] {
+/// The same number, no longer secret.
+fn shown(number: u64) -> u64 {
+    let bytes = number.to_ne_bytes();
+    request(MAKE_DEFINED, &bytes);
+    // It has to be read from where it was marked.
+    u64::from_ne_bytes(unsafe { std::ptr::read_volatile(&bytes) })
+}
+
+/// What in the prefixes that the padded opener is lent is secret.
+#[derive(Clone, Copy, PartialEq)]
+enum Secret {
+    AllButTheLastBlock,
+    All,
+}
+
+/// Splits a secret message under secret keys, which makes the shares secret, and opens it again. The complaints that the
+/// opener brought.
+fn split_and_reconstruct(call: &Call, secret: Secret, random: &mut Random) -> u64 {
+    let (message, keys) = (random.bytes(call.length), random.bytes(call.keys));
+    let (mut shares, mut opened) = (vec![0; call.shares], vec![0; call.message]);
+    for secret in [&message, &keys] {
         request(MAKE_UNDEFINED, secret);
     }
-    let written = library::split(s.n, s.r, s.z, &s.counts, &message, &keys, &mut shares);
-    assert_eq!(written, Ok(call.share as u64));
-    let used = library::reconstruct(s.n, s.r, s.z, &s.counts, call.length, &call.parties, &prefixes, &mut opened);
-    assert_eq!(used, Ok(call.prefixes as u64));
-    for secret in [&message, &keys, &prefixes, &shares, &opened] {
+    assert_eq!(calls::split(call, &message, &keys, &mut shares), Ok(call.share as u64));
+    assert_eq!(calls::prefix(call, &shares[..call.share]), Ok((call.prefixes / call.d) as u64));
+    let prefixes = call.sent(&shares);
+    if call.form == Form::Padded && secret == Secret::AllButTheLastBlock {
+        // All blocks of a row stand together.
+        let blocks = call.message / call.scheme.m;
+        prefixes.chunks(blocks).for_each(|row| _ = request(MAKE_DEFINED, &row[blocks - 1..]));
+    }
+    let before = request(COUNT_ERRORS, &[]);
+    let answer = calls::reconstruct(call, &prefixes, &mut opened);
+    let complaints = request(COUNT_ERRORS, &[]) - before;
+    let answer = answer.map(|(used, length)| (used, shown(length)));
+    assert_eq!(answer, Ok((call.prefixes as u64, call.length as u64)));
+    for secret in [&message, &keys, &shares, &prefixes, &opened] {
         request(MAKE_DEFINED, secret);
     }
+    assert!(opened[..call.length] == message);
+    complaints
+}
+
+/// Hands on calls for 200 messages, one for every count.
+fn calls_of(form: Form, random: &mut Random, mut to: impl FnMut(&Call, &mut Random)) {
+    for case in 0..200 {
+        let scheme = if case % 4 == 0 { Scheme::default() } else { Scheme::drawn(random, 120) };
+        let length = length(random, scheme.m);
+        for &d in &scheme.counts {
+            let call = Call::new(form, &scheme, length, parties(random, scheme.n, d));
+            to(&call, random);
+        }
+    }
+}
+
+/// With all bytes secret, the padded opener's decision is complained about, once or twice a call.
+fn count_decisions(random: &mut Random) {
+    let (mut openings, mut all) = (0, 0);
+    calls_of(Form::Padded, random, |call, random| {
+        let complaints = split_and_reconstruct(call, Secret::All, random);
+        assert!((1..=2).contains(&complaints), "{complaints} complaints, {call:?}");
+        openings += 1;
+        all += complaints;
+    });
+    println!("{openings} openings of padded messages, {all} complaints");
 }
 
 fn main() {
     println!("under valgrind: {}", request(RUNNING_ON_VALGRIND, &[]) == 1);
     let mut random = Random::new(1);
-    for case in 0..200 {
-        let scheme = if case % 4 == 0 { Scheme::default() } else { Scheme::drawn(&mut random, 120) };
-        let length = length(&mut random, scheme.m);
-        for &d in &scheme.counts {
-            let call = Call::new(&scheme, length, parties(&mut random, scheme.n, d));
-            split_and_reconstruct(&call, &mut random);
-        }
+    let argument = std::env::args().nth(1).unwrap_or_default();
+    if argument == "end" {
+        return count_decisions(&mut random);
     }
-    println!("200 messages, split and opened for every count");
-    if std::env::args().any(|argument| argument == "control") {
+    for form in FORMS {
+        calls_of(form, &mut random, |call, random| {
+            split_and_reconstruct(call, Secret::AllButTheLastBlock, random);
+        });
+    }
+    println!("200 messages in both forms, split and opened for every count");
+    if argument == "control" {
         let secret = random.bytes(1);
         request(MAKE_UNDEFINED, &secret);
         std::hint::black_box(library::mul(secret[0], 3));

@@ -1,10 +1,10 @@
-//! What splitting and reconstructing cost: the proved library, an obvious program with tables, and libgfshare where it is
-//! installed. All take turns in one process.
+//! What splitting and reconstructing cost: the proved library in both forms of message, an obvious program with tables, and
+//! libgfshare where it is installed. All take turns in one process.
 
-use gilunavoi::cases::{parties, Call, Scheme};
+use gilunavoi::cases::{parties, Call, Form, Scheme, FORMS};
 use gilunavoi::limits::MAX_MESSAGE;
 use gilunavoi::random::Random;
-use gilunavoi::{library, reference};
+use gilunavoi::{calls, reference};
 use measure::{Program, Task, TURNS};
 use std::cell::RefCell;
 use std::hint::black_box;
@@ -21,7 +21,7 @@ mod measure;
 #[path = "speed/tables.rs"]
 mod tables;
 
-/// A message, its keys and its shares. Both programs are held to the same shares.
+/// A message of one form, its keys and its shares. Both programs are held to the same shares.
 struct Split {
     call: Call,
     message: Vec<u8>,
@@ -31,10 +31,10 @@ struct Split {
 }
 
 impl Split {
-    fn new(random: &mut Random, scheme: &Scheme, length: usize) -> Rc<Split> {
+    fn new(random: &mut Random, form: Form, scheme: &Scheme, length: usize) -> Rc<Split> {
         // Nothing about the scheme is known when this is compiled.
         let scheme = black_box(scheme.clone());
-        let call = Call::drawn(random, &scheme, length);
+        let call = Call::drawn(random, form, &scheme, length);
         let (message, keys) = (random.bytes(length), random.bytes(call.keys));
         let shares = RefCell::new(vec![0; call.shares]);
         let split = Split { message, keys, shares, tables: Tables::new(&scheme), call };
@@ -46,18 +46,21 @@ impl Split {
     }
 
     fn by_the_library(&self) {
-        let s = &self.call.scheme;
-        let mut out = self.shares.borrow_mut();
-        let answer = library::split(s.n, s.r, s.z, &s.counts, &self.message, &self.keys, &mut out);
+        let answer = calls::split(&self.call, &self.message, &self.keys, &mut self.shares.borrow_mut());
         assert_eq!(answer, Ok(self.call.share as u64));
     }
 
+    /// This program is timed in the earlier form alone. It pads with zeros by itself.
     fn by_tables(&self) {
-        self.tables.split(&self.message, &self.keys, &mut self.shares.borrow_mut());
+        let mut out = self.shares.borrow_mut();
+        match self.call.form {
+            Form::Earlier => self.tables.split(&self.message, &self.keys, &mut out),
+            Form::Padded => self.tables.split(&[&self.message[..], &[128]].concat(), &self.keys, &mut out),
+        }
     }
 }
 
-/// The prefixes of d parties, and the message that is read from them.
+/// The prefixes of some parties, and the message that is read from them.
 struct Reconstruct {
     split: Rc<Split>,
     call: Call,
@@ -67,30 +70,24 @@ struct Reconstruct {
 }
 
 impl Reconstruct {
-    fn new(random: &mut Random, split: &Rc<Split>, d: u8) -> Rc<Reconstruct> {
+    fn new(split: &Rc<Split>, parties: Vec<u8>) -> Rc<Reconstruct> {
         let s = &split.call.scheme;
-        let call = Call::new(s, split.call.length, parties(random, s.n, d));
-        let shares = split.shares.borrow();
-        let prefix = call.prefixes / call.d;
-        let of_party = |&party: &u8| shares[(party as usize - 1) * call.share..][..prefix].to_vec();
-        let prefixes = call.parties.iter().flat_map(of_party).collect();
+        let call = Call::new(split.call.form, s, split.call.length, parties);
+        let prefixes = call.sent(&split.shares.borrow());
         let basis = reference::basis(s.n, s.r, s.z, &s.counts, &call.parties).expect("accepted");
-        let message = RefCell::new(vec![0; call.length]);
+        let message = RefCell::new(vec![0; call.message]);
         let reconstruct = Reconstruct { split: split.clone(), prefixes, basis, message, call };
         for program in [Reconstruct::by_the_library, Reconstruct::by_tables] {
             program(&reconstruct);
-            let message = reconstruct.message.replace(vec![0; reconstruct.call.length]);
-            assert!(message == split.message, "the message comes back");
+            let message = reconstruct.message.replace(vec![0; reconstruct.call.message]);
+            assert!(message[..split.message.len()] == split.message, "the message comes back");
         }
         Rc::new(reconstruct)
     }
 
     fn by_the_library(&self) {
-        let (s, call) = (&self.call.scheme, &self.call);
-        let mut out = self.message.borrow_mut();
-        let used =
-            library::reconstruct(s.n, s.r, s.z, &s.counts, call.length, &call.parties, &self.prefixes, &mut out);
-        assert_eq!(used, Ok(call.prefixes as u64));
+        let answer = calls::reconstruct(&self.call, &self.prefixes, &mut self.message.borrow_mut());
+        assert_eq!(answer, Ok((self.call.prefixes as u64, self.call.length as u64)));
     }
 
     fn by_tables(&self) {
@@ -99,22 +96,26 @@ impl Reconstruct {
     }
 }
 
-/// Splitting, and reconstructing for each count. `matched` are libgfshare's lines for a message of this length.
+/// Splitting, and reconstructing for each count, the same parties in both forms. `matched` are libgfshare's lines for a
+/// message of this length.
 fn tasks(random: &mut Random, s: &Scheme, length: usize, matched: Option<[usize; 2]>) -> Vec<Task> {
-    let split = Split::new(random, s, length);
-    let (a, b) = (split.clone(), split.clone());
+    let [split, padded] = FORMS.map(|form| Split::new(random, form, s, length));
+    let (a, b, c) = (split.clone(), split.clone(), padded.clone());
     let mut tasks = vec![Task {
         name: format!("n {}, r {}, z {}, counts {:?}, {length} bytes: split", s.n, s.r, s.z, s.counts),
         program: Program::new(length, move || a.by_the_library()),
+        padded: Some(Program::new(length, move || c.by_the_library())),
         tables: Some(Program::new(length, move || b.by_tables())),
         matched: matched.map(|lines| lines[0]),
     }];
     for &d in &s.counts {
-        let a = Reconstruct::new(random, &split, d);
-        let b = a.clone();
+        let parties = parties(random, s.n, d);
+        let a = Reconstruct::new(&split, parties.clone());
+        let (b, c) = (a.clone(), Reconstruct::new(&padded, parties));
         tasks.push(Task {
             name: format!("    reconstruct, {d} readers"),
             program: Program::new(length, move || a.by_the_library()),
+            padded: Some(Program::new(length, move || c.by_the_library())),
             tables: Some(Program::new(length, move || b.by_tables())),
             matched: matched.map(|lines| lines[1]),
         });
@@ -129,7 +130,7 @@ fn tasks_of_gfshare(random: &mut Random, length: usize) -> Vec<Task> {
     a.borrow_mut().reconstruct();
     assert!(a.borrow().secret == a.borrow().opened, "the secret comes back");
     let b = a.clone();
-    let line = |name: String, program| Task { name, program, tables: None, matched: None };
+    let line = |name: String, program| Task { name, program, padded: None, tables: None, matched: None };
     vec![
         line(format!("libgfshare, any 3 of 5, {length} bytes: split"), Program::new(length, move || a.borrow_mut().split())),
         line("    reconstruct".into(), Program::new(length, move || b.borrow_mut().reconstruct())),
@@ -148,6 +149,13 @@ fn schemes() -> Vec<Scheme> {
     let others = others.map(|(n, r, z, counts)| Scheme::new(n, r, z, counts).expect("an accepted scheme"));
     [&[Scheme::default()], &others[..]].concat()
 }
+
+const LEGEND: &str = "\
+microseconds a call, best and median turn; message MB a second in the best turn, and of the program with
+tables, which has worked out beforehand what depends on the scheme and the readers alone; microseconds of
+the same call for padded messages, best turn, and how many times those of the first column; how many times
+faster than libgfshare
+";
 
 fn main() {
     let mut random = Random::new(1);
@@ -168,10 +176,10 @@ fn main() {
         all.iter_mut().for_each(Task::turn);
         series.iter_mut().for_each(growth::Series::turn);
     }
-    println!("microseconds a call, best and median turn; message MB a second in the best turn, and of the program with");
-    println!("tables, which has worked out beforehand what depends on the scheme and the readers alone; how many times");
-    println!("faster than libgfshare");
-    println!("{:66} {:>9} {:>9} {:>7} {:>7} {:>7}", "", "us: best", "median", "MB/s", "tables", "gfshare");
+    print!("{LEGEND}");
+    let columns = ["us: best", "median", "MB/s", "tables", "padded", "times", "gfshare"];
+    let [best, median, speed, tables, padded, times, gfshare] = columns;
+    println!("{:66} {best:>9} {median:>9} {speed:>7} {tables:>7} {padded:>9} {times:>6} {gfshare:>7}", "");
     all.iter().for_each(|task| println!("{}", task.line(&all)));
     println!("\nhow the cost grows, microseconds a call, best turns: split / reconstruct for the lowest count");
     series.iter().for_each(|series| println!("{}", series.line()));

@@ -47,25 +47,29 @@ fn refused(number: u64) -> String {
 /// The shares, one after another, and the length of one.
 fn split(message: &[u8]) -> Result<(Vec<u8>, usize), Box<dyn Error>> {
     let (block, rows) = library::check_default().map_err(refused)?;
-    let blocks = message.len().div_ceil(block as usize);
+    let blocks = message.len() / block as usize + 1;
     let share = blocks * rows as usize;
     let keys = drawn_keys(DEFAULT_Z as usize * share)?;
     let mut shares = vec![0; DEFAULT_N as usize * share];
-    library::split_default(message, &keys, &mut shares).map_err(refused)?;
+    library::split_padded_default(message, &keys, &mut shares).map_err(refused)?;
     Ok((shares, share))
 }
 
-/// Opens the message from what these parties send; the bytes that each sends, and those used in all.
-fn open(shares: &[u8], share: usize, parties: &[u8], message: &mut [u8]) -> Result<(u64, u64), String> {
+/// Opens the message from what these parties send, knowing nothing of it but the shares; the bytes that each sends, and
+/// those used in all.
+fn open(shares: &[u8], share: usize, parties: &[u8]) -> Result<(Vec<u8>, u64, u64), String> {
     let mut prefixes = Vec::new();
     let mut each = 0;
     for &party in parties {
         let share = &shares[(party as usize - 1) * share..party as usize * share];
-        each = library::prefix_default(message.len(), parties.len(), share).map_err(refused)?;
+        each = library::prefix_padded_default(parties.len(), share).map_err(refused)?;
         prefixes.extend(&share[..each as usize]);
     }
-    let used = library::reconstruct_default(message.len(), parties, &prefixes, message).map_err(refused)?;
-    Ok((each, used))
+    let (block, rows) = library::check_default().map_err(refused)?;
+    let mut message = vec![0; share / rows as usize * block as usize];
+    let (used, length) = library::reconstruct_padded_default(parties, &prefixes, &mut message).map_err(refused)?;
+    message.truncate(length as usize);
+    Ok((message, each, used))
 }
 
 fn main() -> Result<(), Box<dyn Error>> {
@@ -76,8 +80,7 @@ fn main() -> Result<(), Box<dyn Error>> {
     writeln!(out, "Each share has {share} bytes, all of them together {}.\n", shares.len())?;
     writeln!(out, "parties    fetched from each  in all")?;
     for parties in READINGS {
-        let mut message = vec![0; LETTER.len()];
-        let (each, used) = open(&shares, share, parties, &mut message)?;
+        let (message, each, used) = open(&shares, share, parties)?;
         if message != LETTER.as_bytes() {
             return Err(format!("another letter came back from parties {parties:?}").into());
         }

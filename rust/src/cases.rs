@@ -115,11 +115,32 @@ pub fn parties(random: &mut Random, n: u8, d: u8) -> Vec<u8> {
     all
 }
 
+/// The two forms of message.
+#[derive(Clone, Copy, Debug, PartialEq, Eq)]
+pub enum Form {
+    /// Padded with zeros where the last block is not full; the caller keeps the length.
+    Earlier,
+    /// Padded always, so that it knows its own end.
+    Padded,
+}
+
+pub const FORMS: [Form; 2] = [Form::Earlier, Form::Padded];
+
+impl Form {
+    pub fn blocks(self, length: usize, m: usize) -> usize {
+        match self {
+            Form::Earlier => length.div_ceil(m),
+            Form::Padded => length / m + 1,
+        }
+    }
+}
+
 /// The arguments of a call of any part of the library: of the slices that hold bytes, their lengths alone.
 #[derive(Clone, Debug)]
 pub struct Call {
+    pub form: Form,
     pub scheme: Scheme,
-    /// Of the message, as the splitter is lent it and the others are told it.
+    /// Of the message, as the splitter is lent it and the others are told it in the earlier form.
     pub length: usize,
     /// The count for which a prefix is asked.
     pub d: usize,
@@ -131,17 +152,21 @@ pub struct Call {
     pub share: usize,
     /// What the readers lend.
     pub prefixes: usize,
-    /// The opener's output.
+    /// The opener's output: the message, in the padded form with its padding.
     pub message: usize,
+    /// The place of the last byte that is not 0 in the blocks of which the readers lend prefixes, and this byte. Without it
+    /// they lend drawn bytes, which no splitter wrote.
+    pub end: Option<(usize, u8)>,
 }
 
 impl Call {
-    /// An accepted call: a message of this length, read by these parties.
-    pub fn new(scheme: &Scheme, length: usize, parties: Vec<u8>) -> Call {
+    /// An accepted call: a message of this form and length, read by these parties.
+    pub fn new(form: Form, scheme: &Scheme, length: usize, parties: Vec<u8>) -> Call {
         let (z, d) = (scheme.z as usize, parties.len());
-        let blocks = length.div_ceil(scheme.m);
+        let blocks = form.blocks(length, scheme.m);
         let share = blocks * scheme.b;
         Call {
+            form,
             scheme: scheme.clone(),
             length,
             d,
@@ -150,13 +175,21 @@ impl Call {
             shares: share * scheme.n as usize,
             share,
             prefixes: d * (scheme.m / (d - z)) * blocks,
-            message: length,
+            message: if form == Form::Padded { blocks * scheme.m } else { length },
+            end: (form == Form::Padded).then_some((length, 128)),
         }
     }
 
     /// The same with d parties drawn, d one of the counts.
-    pub fn drawn(random: &mut Random, scheme: &Scheme, length: usize) -> Call {
+    pub fn drawn(random: &mut Random, form: Form, scheme: &Scheme, length: usize) -> Call {
         let d = scheme.counts[random.below(scheme.counts.len())];
-        Call::new(scheme, length, parties(random, scheme.n, d))
+        Call::new(form, scheme, length, parties(random, scheme.n, d))
+    }
+
+    /// What the parties of an accepted call send of the shares, which stand one after another.
+    pub fn sent(&self, shares: &[u8]) -> Vec<u8> {
+        let prefix = self.prefixes / self.d;
+        let of_party = |&party: &u8| &shares[(party as usize - 1) * self.share..][..prefix];
+        self.parties.iter().flat_map(of_party).copied().collect()
     }
 }

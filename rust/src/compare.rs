@@ -1,9 +1,10 @@
 //! One call of the proved library and of the other implementation, held against each other: the answer, every byte of
 //! the output, and the bytes around it. Where the scheme is the default, the form without a scheme is called too.
 
-use crate::cases::{Call, Scheme};
+use crate::cases::{Call, Form, Scheme};
 use crate::random::Random;
-use crate::{library, reference};
+use crate::{calls, library, reference};
+use std::fmt::Debug;
 
 /// On what the two agree: that the call is accepted, or its refusal.
 pub type Agreed = Result<(), u64>;
@@ -30,12 +31,12 @@ impl Lent {
 
 /// Lends a call its output between guard bytes. It has to answer and to write what is expected, or to refuse and to
 /// write nothing.
-fn written(
+fn written<Value: Copy + Debug + PartialEq>(
     call: &Call,
     random: &mut Random,
     length: usize,
-    expected: &Result<(u64, Vec<u8>), u64>,
-    run: impl Fn(&mut [u8]) -> library::Answer,
+    expected: &Result<(Value, Vec<u8>), u64>,
+    run: impl Fn(&mut [u8]) -> Result<Value, u64>,
 ) {
     let (start, end) = (8 + random.below(16), 8 + random.below(16));
     let mut after = random.bytes(start + length + end);
@@ -57,15 +58,23 @@ pub fn check(s: &Scheme) -> Agreed {
     expected.map(|_| ())
 }
 
-pub fn split(call: &Call, random: &mut Random) -> Agreed {
+/// The other implementation's shares.
+pub fn expected_shares(call: &Call, message: &[u8], keys: &[u8]) -> Result<Vec<u8>, u64> {
     let s = &call.scheme;
+    match call.form {
+        Form::Earlier => reference::split(s.n, s.r, s.z, &s.counts, message, keys, call.shares),
+        Form::Padded => reference::split_padded(s.n, s.r, s.z, &s.counts, message, keys, call.shares),
+    }
+}
+
+pub fn split(call: &Call, random: &mut Random) -> Agreed {
     let (message, keys) = (Lent::new(random, call.length), Lent::new(random, call.keys));
     let (message, keys) = (message.bytes(), keys.bytes());
-    let shares = reference::split(s.n, s.r, s.z, &s.counts, message, keys, call.shares);
-    let expected = shares.map(|shares| ((shares.len() / s.n as usize) as u64, shares));
-    written(call, random, call.shares, &expected, |out| library::split(s.n, s.r, s.z, &s.counts, message, keys, out));
-    if s.is_default() {
-        written(call, random, call.shares, &expected, |out| library::split_default(message, keys, out));
+    let shares = expected_shares(call, message, keys);
+    let expected = shares.map(|shares| ((shares.len() / call.scheme.n as usize) as u64, shares));
+    written(call, random, call.shares, &expected, |out| calls::split(call, message, keys, out));
+    if call.scheme.is_default() {
+        written(call, random, call.shares, &expected, |out| calls::split_default(call, message, keys, out));
     }
     expected.map(|_| ())
 }
@@ -73,11 +82,13 @@ pub fn split(call: &Call, random: &mut Random) -> Agreed {
 pub fn prefix(call: &Call, random: &mut Random) -> Agreed {
     let s = &call.scheme;
     let share = Lent::new(random, call.share);
-    let expected = reference::prefix(s.n, s.r, s.z, &s.counts, call.length, call.d, call.share);
-    let answer = library::prefix(s.n, s.r, s.z, &s.counts, call.length, call.d, share.bytes());
-    assert_eq!(answer, expected, "{call:?}");
+    let expected = match call.form {
+        Form::Earlier => reference::prefix(s.n, s.r, s.z, &s.counts, call.length, call.d, call.share),
+        Form::Padded => reference::prefix_padded(s.n, s.r, s.z, &s.counts, call.d, call.share),
+    };
+    assert_eq!(calls::prefix(call, share.bytes()), expected, "{call:?}");
     if s.is_default() {
-        assert_eq!(library::prefix_default(call.length, call.d, share.bytes()), expected, "{call:?}");
+        assert_eq!(calls::prefix_default(call, share.bytes()), expected, "{call:?}");
     }
     expected.map(|_| ())
 }
@@ -98,19 +109,43 @@ pub fn basis(call: &Call, _: &mut Random) -> Agreed {
     expected.map(|_| ())
 }
 
-/// The prefixes are drawn bytes: no splitter wrote them.
+/// What the call's parties send of blocks with this end, if its scheme and its parties are accepted; any length in the
+/// call may be wrong.
+fn prefixes_with_end(call: &Call, (place, byte): (usize, u8), random: &mut Random) -> Option<Vec<u8>> {
+    let s = &call.scheme;
+    reference::basis(s.n, s.r, s.z, &s.counts, &call.parties).ok()?;
+    let scheme = Scheme::new(s.n, s.r, s.z, s.counts.clone())?;
+    let accepted = Call::new(Form::Padded, &scheme, call.length, call.parties.clone());
+    let mut string = random.bytes(place);
+    string.push(byte);
+    string.resize(accepted.message, 0);
+    let keys = random.bytes(accepted.keys);
+    let shares = reference::shares_of_blocks(s.n, s.z, &s.counts, scheme.m, &string, &keys);
+    Some(accepted.sent(&shares))
+}
+
+/// What the readers lend: drawn bytes, or as far as it goes what was sent of blocks with the call's end.
+fn lent_prefixes(call: &Call, random: &mut Random) -> Lent {
+    let mut lent = Lent::new(random, call.prefixes);
+    let sent = call.end.and_then(|end| prefixes_with_end(call, end, random)).unwrap_or_default();
+    lent.bytes[lent.start..].iter_mut().zip(sent).for_each(|(byte, sent)| *byte = sent);
+    lent
+}
+
 pub fn reconstruct(call: &Call, random: &mut Random) -> Agreed {
     let s = &call.scheme;
-    let prefixes = Lent::new(random, call.prefixes);
+    let prefixes = lent_prefixes(call, random);
     let (parties, prefixes) = (&call.parties[..], prefixes.bytes());
-    let expected = reference::reconstruct(s.n, s.r, s.z, &s.counts, call.length, parties, prefixes, call.message);
-    written(call, random, call.message, &expected, |out| {
-        library::reconstruct(s.n, s.r, s.z, &s.counts, call.length, parties, prefixes, out)
-    });
+    let expected = match call.form {
+        Form::Earlier => {
+            let opened = reference::reconstruct(s.n, s.r, s.z, &s.counts, call.length, parties, prefixes, call.message);
+            opened.map(|(used, message)| ((used, call.length as u64), message))
+        }
+        Form::Padded => reference::reconstruct_padded(s.n, s.r, s.z, &s.counts, parties, prefixes, call.message),
+    };
+    written(call, random, call.message, &expected, |out| calls::reconstruct(call, prefixes, out));
     if s.is_default() {
-        written(call, random, call.message, &expected, |out| {
-            library::reconstruct_default(call.length, parties, prefixes, out)
-        });
+        written(call, random, call.message, &expected, |out| calls::reconstruct_default(call, prefixes, out));
     }
     expected.map(|_| ())
 }

@@ -7,6 +7,8 @@ pub mod limits;
 // their own, use it: an implementation of the same rules that shares no code with the proved one, reproducible inputs,
 // and calls of both that are held against each other.
 #[doc(hidden)]
+pub mod calls;
+#[doc(hidden)]
 pub mod cases;
 #[doc(hidden)]
 pub mod compare;

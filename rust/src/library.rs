@@ -7,65 +7,7 @@ use crate::limits::MAX_PARTIES;
 pub const WEIGHTS: usize = ROW_OF_WEIGHTS * ROW_OF_WEIGHTS;
 pub const ROW_OF_WEIGHTS: usize = MAX_PARTIES as usize;
 
-mod boundary {
-    use super::WEIGHTS;
-
-    #[repr(C)]
-    pub struct SharingScheme {
-        pub refusal: u64,
-        pub block: u64,
-        pub rows: u64,
-    }
-
-    #[repr(C)]
-    pub struct SharingAnswer {
-        pub refusal: u64,
-        pub value: u64,
-    }
-
-    #[repr(C)]
-    pub struct SharingBasis {
-        pub refusal: u64,
-        pub weights: [u8; WEIGHTS],
-    }
-
-    #[rustfmt::skip]
-    extern "C" {
-        pub fn gf256_add(a: u8, b: u8) -> u8;
-        pub fn gf256_mul(a: u8, b: u8) -> u8;
-        pub fn gf256_mul_by_shifting(a: u8, b: u8) -> u8;
-        pub fn gf256_inverse(a: u8) -> u8;
-        pub fn sharing_check(n: u8, r: u8, z: u8, counts: *const u8, length: usize) -> SharingScheme;
-        pub fn sharing_check_default() -> SharingScheme;
-        pub fn sharing_split(
-            n: u8, r: u8, z: u8, counts: *const u8, counts_length: usize,
-            message: *const u8, message_length: usize, keys: *const u8, keys_length: usize,
-            out: *mut u8, out_length: usize,
-        ) -> SharingAnswer;
-        pub fn sharing_split_default(
-            message: *const u8, message_length: usize, keys: *const u8, keys_length: usize,
-            out: *mut u8, out_length: usize,
-        ) -> SharingAnswer;
-        pub fn sharing_prefix(
-            n: u8, r: u8, z: u8, counts: *const u8, counts_length: usize,
-            message_length: usize, d: usize, share: *const u8, share_length: usize,
-        ) -> SharingAnswer;
-        pub fn sharing_basis(
-            n: u8, r: u8, z: u8, counts: *const u8, counts_length: usize, parties: *const u8, parties_length: usize,
-        ) -> SharingBasis;
-        pub fn sharing_basis_default(parties: *const u8, parties_length: usize) -> SharingBasis;
-        pub fn sharing_reconstruct(
-            n: u8, r: u8, z: u8, counts: *const u8, counts_length: usize, message_length: usize,
-            parties: *const u8, parties_length: usize, prefixes: *const u8, prefixes_length: usize,
-            out: *mut u8, out_length: usize,
-        ) -> SharingAnswer;
-        pub fn sharing_reconstruct_default(
-            message_length: usize, parties: *const u8, parties_length: usize,
-            prefixes: *const u8, prefixes_length: usize, out: *mut u8, out_length: usize,
-        ) -> SharingAnswer;
-        pub fn sharing_prefix_default(message_length: usize, d: usize, share: *const u8, share_length: usize) -> SharingAnswer;
-    }
-}
+mod boundary;
 
 /// The block length m and the rows b of a block, or the number of the refusal.
 pub type Checked = Result<(u64, u64), u64>;
@@ -87,6 +29,19 @@ fn answer(answer: boundary::SharingAnswer) -> Answer {
         Ok(answer.value)
     } else {
         assert_eq!(answer.value, 0, "a refusal comes alone");
+        Err(answer.refusal)
+    }
+}
+
+/// What the opener of padded messages answers: the number of prefix bytes that it used and the length of the message,
+/// or the number of the refusal.
+pub type PaddedAnswer = Result<(u64, u64), u64>;
+
+fn padded_answer(answer: boundary::SharingPaddedAnswer) -> PaddedAnswer {
+    if answer.refusal == 0 {
+        Ok((answer.used, answer.length))
+    } else {
+        assert_eq!((answer.used, answer.length), (0, 0), "a refusal comes alone");
         Err(answer.refusal)
     }
 }
@@ -209,6 +164,87 @@ pub fn reconstruct_default(length: usize, parties: &[u8], prefixes: &[u8], out: 
     answer(unsafe {
         boundary::sharing_reconstruct_default(
             length,
+            parties.as_ptr(),
+            parties.len(),
+            prefixes.as_ptr(),
+            prefixes.len(),
+            out.as_mut_ptr(),
+            out.len(),
+        )
+    })
+}
+
+pub fn split_padded(n: u8, r: u8, z: u8, counts: &[u8], message: &[u8], keys: &[u8], out: &mut [u8]) -> Answer {
+    answer(unsafe {
+        boundary::sharing_split_padded(
+            n,
+            r,
+            z,
+            counts.as_ptr(),
+            counts.len(),
+            message.as_ptr(),
+            message.len(),
+            keys.as_ptr(),
+            keys.len(),
+            out.as_mut_ptr(),
+            out.len(),
+        )
+    })
+}
+
+pub fn split_padded_default(message: &[u8], keys: &[u8], out: &mut [u8]) -> Answer {
+    answer(unsafe {
+        boundary::sharing_split_padded_default(
+            message.as_ptr(),
+            message.len(),
+            keys.as_ptr(),
+            keys.len(),
+            out.as_mut_ptr(),
+            out.len(),
+        )
+    })
+}
+
+pub fn prefix_padded(n: u8, r: u8, z: u8, counts: &[u8], d: usize, share: &[u8]) -> Answer {
+    answer(unsafe {
+        boundary::sharing_prefix_padded(n, r, z, counts.as_ptr(), counts.len(), d, share.as_ptr(), share.len())
+    })
+}
+
+pub fn prefix_padded_default(d: usize, share: &[u8]) -> Answer {
+    answer(unsafe { boundary::sharing_prefix_padded_default(d, share.as_ptr(), share.len()) })
+}
+
+/// Writes the whole blocks into `out`: the message, whose length is answered, and its padding.
+pub fn reconstruct_padded(
+    n: u8,
+    r: u8,
+    z: u8,
+    counts: &[u8],
+    parties: &[u8],
+    prefixes: &[u8],
+    out: &mut [u8],
+) -> PaddedAnswer {
+    padded_answer(unsafe {
+        boundary::sharing_reconstruct_padded(
+            n,
+            r,
+            z,
+            counts.as_ptr(),
+            counts.len(),
+            parties.as_ptr(),
+            parties.len(),
+            prefixes.as_ptr(),
+            prefixes.len(),
+            out.as_mut_ptr(),
+            out.len(),
+        )
+    })
+}
+
+pub fn reconstruct_padded_default(parties: &[u8], prefixes: &[u8], out: &mut [u8]) -> PaddedAnswer {
+    padded_answer(unsafe {
+        boundary::sharing_reconstruct_padded_default(
             parties.as_ptr(),
             parties.len(),
             prefixes.as_ptr(),

@@ -1,7 +1,8 @@
 //! The rules of the scheme, written from their document alone and by other means than the proved
 //! library: sums and products bit by bit, inverses by trial, the block length by Euclid's algorithm,
-//! rows by their literal lists, values as sums of powers, weights and messages by elimination. Speed is
-//! no aim.
+//! rows by their literal lists, values as sums of powers, weights and messages by elimination, the number
+//! of blocks in a share of a padded message by trial, the end of such a message from the back. Speed is no
+//! aim.
 
 use std::sync::OnceLock;
 
@@ -128,41 +129,95 @@ fn value(row: &[u8], powers: &[u8]) -> u8 {
     row.iter().zip(powers).fold(0, |sum, (&coefficient, &power)| sum ^ mul(coefficient, power))
 }
 
-/// The number of blocks of a message, the block length and the rows of a block.
-fn sizes(n: u8, r: u8, z: u8, counts: &[u8], length: usize) -> (usize, usize, usize) {
-    let (m, b) = check(n, r, z, counts).expect("an accepted scheme");
-    let (m, b) = (m as usize, b as usize);
-    (length.div_ceil(m), m, b)
+/// The block length and the rows of a block, as lengths.
+fn sizes(n: u8, r: u8, z: u8, counts: &[u8]) -> Result<(usize, usize), u64> {
+    check(n, r, z, counts).map(|(m, b)| (m as usize, b as usize))
 }
 
-/// The shares of all parties, one after another.
-pub fn split(n: u8, r: u8, z: u8, counts: &[u8], message: &[u8], keys: &[u8], out: usize) -> Result<Vec<u8>, u64> {
-    check(n, r, z, counts)?;
-    first_refusal(&[(message.len() > LONGEST_MESSAGE, 5)])?;
-    let (blocks, m, b) = sizes(n, r, z, counts, message.len());
-    let z = z as usize;
-    first_refusal(&[(keys.len() != blocks * z * b, 8), (out != n as usize * blocks * b, 10)])?;
-    let mut padded = message.to_vec();
-    padded.resize(blocks * m, 0);
+/// Zeros up to the end of the last block of m bytes.
+fn whole_blocks(mut string: Vec<u8>, m: usize) -> Vec<u8> {
+    string.resize(string.len().div_ceil(m) * m, 0);
+    string
+}
+
+/// The padding of messages that know their own end: one byte 128 after the message, then zeros.
+fn padded(message: &[u8], m: usize) -> Vec<u8> {
+    whole_blocks([message, &[128]].concat(), m)
+}
+
+/// The shares of whole blocks of m bytes in an accepted scheme, those of all parties one after another.
+pub fn shares_of_blocks(n: u8, z: u8, counts: &[u8], m: usize, string: &[u8], keys: &[u8]) -> Vec<u8> {
+    let (z, blocks) = (z as usize, string.len() / m);
     let points: Vec<Vec<u8>> = (1..=n).map(|s| powers(s, n as usize)).collect();
+    // The last count is n - r.
+    let b = m / (counts[counts.len() - 1] as usize - z);
     let mut shares = vec![0; n as usize * blocks * b];
     for t in 0..blocks {
-        let rows = rows(z, counts, &padded[t * m..(t + 1) * m], &keys[t * z * b..(t + 1) * z * b]);
+        let rows = rows(z, counts, &string[t * m..(t + 1) * m], &keys[t * z * b..(t + 1) * z * b]);
         for (j, row) in rows.iter().enumerate() {
             for (a, powers) in points.iter().enumerate() {
                 shares[a * blocks * b + j * blocks + t] = value(row, powers);
             }
         }
     }
-    Ok(shares)
+    shares
+}
+
+/// What the two splitters have in common: they differ in how the blocks are made of the message.
+fn split_as(
+    whole: impl Fn(&[u8], usize) -> Vec<u8>,
+    (n, r, z, counts): (u8, u8, u8, &[u8]),
+    message: &[u8],
+    keys: &[u8],
+    out: usize,
+) -> Result<Vec<u8>, u64> {
+    let (m, b) = sizes(n, r, z, counts)?;
+    first_refusal(&[(message.len() > LONGEST_MESSAGE, 5)])?;
+    let string = whole(message, m);
+    let share = string.len() / m * b;
+    first_refusal(&[(keys.len() != share * z as usize, 8), (out != share * n as usize, 10)])?;
+    Ok(shares_of_blocks(n, z, counts, m, &string, keys))
+}
+
+/// The shares of all parties, one after another.
+pub fn split(n: u8, r: u8, z: u8, counts: &[u8], message: &[u8], keys: &[u8], out: usize) -> Result<Vec<u8>, u64> {
+    split_as(|message, m| whole_blocks(message.to_vec(), m), (n, r, z, counts), message, keys, out)
+}
+
+/// The same of a padded message.
+pub fn split_padded(
+    n: u8,
+    r: u8,
+    z: u8,
+    counts: &[u8],
+    message: &[u8],
+    keys: &[u8],
+    out: usize,
+) -> Result<Vec<u8>, u64> {
+    split_as(padded, (n, r, z, counts), message, keys, out)
 }
 
 /// The length of a prefix.
 pub fn prefix(n: u8, r: u8, z: u8, counts: &[u8], length: usize, d: usize, share: usize) -> Result<u64, u64> {
-    check(n, r, z, counts)?;
+    let (m, b) = sizes(n, r, z, counts)?;
     first_refusal(&[(length > LONGEST_MESSAGE, 5), (!is_count(counts, d), 6)])?;
-    let (blocks, m, b) = sizes(n, r, z, counts, length);
+    let blocks = length.div_ceil(m);
     first_refusal(&[(share != blocks * b, 9)])?;
+    Ok((m / (d - z as usize) * blocks) as u64)
+}
+
+/// The number of blocks of a padded message, so many bytes of each of which make this length. It is looked for among the
+/// accepted messages; those of whole blocks give every number that the others give.
+fn padded_blocks(m: usize, of_a_block: usize, length: usize) -> Result<usize, u64> {
+    let mut numbers = (0..=LONGEST_MESSAGE).step_by(m).map(|message| message / m + 1);
+    numbers.find(|blocks| blocks * of_a_block == length).ok_or(9)
+}
+
+/// The length of a prefix of a share of a padded message.
+pub fn prefix_padded(n: u8, r: u8, z: u8, counts: &[u8], d: usize, share: usize) -> Result<u64, u64> {
+    let (m, b) = sizes(n, r, z, counts)?;
+    first_refusal(&[(!is_count(counts, d), 6)])?;
+    let blocks = padded_blocks(m, b, share)?;
     Ok((m / (d - z as usize) * blocks) as u64)
 }
 
@@ -233,7 +288,18 @@ fn equations(m: usize, z: usize, counts: &[u8], parties: &[u8]) -> Vec<Vec<u8>> 
     equations
 }
 
-/// Opens a message by solving the equations of all blocks at once: they differ in their right sides alone.
+/// Opens so many blocks of m bytes by solving the equations of all at once: they differ in their right sides alone.
+fn blocks_of_prefixes(m: usize, z: usize, counts: &[u8], parties: &[u8], prefixes: &[u8], blocks: usize) -> Vec<u8> {
+    let mut system = equations(m, z, counts, parties);
+    // A row of a party stands in its prefix with all blocks together.
+    for (i, equation) in system.iter_mut().enumerate() {
+        equation.extend(&prefixes[i * blocks..(i + 1) * blocks]);
+    }
+    let solutions = solve(system);
+    (0..blocks * m).map(|place| solutions[place % m][place / m]).collect()
+}
+
+/// The bytes used, and the message.
 #[allow(clippy::too_many_arguments)]
 pub fn reconstruct(
     n: u8,
@@ -245,18 +311,41 @@ pub fn reconstruct(
     prefixes: &[u8],
     out: usize,
 ) -> Result<(u64, Vec<u8>), u64> {
-    check(n, r, z, counts)?;
-    let d = parties.len();
+    let (m, _) = sizes(n, r, z, counts)?;
+    let (d, z) = (parties.len(), z as usize);
     first_refusal(&[(length > LONGEST_MESSAGE, 5), (!is_count(counts, d), 6), (parties_are_bad(n, parties), 7)])?;
-    let (blocks, m, _) = sizes(n, r, z, counts, length);
-    let used = d * (m / (d - z as usize)) * blocks;
+    let blocks = length.div_ceil(m);
+    let used = d * (m / (d - z)) * blocks;
     first_refusal(&[(prefixes.len() != used, 9), (out != length, 10)])?;
-    // A row of a party stands in its prefix with all blocks together.
-    let mut system = equations(m, z as usize, counts, parties);
-    for (i, equation) in system.iter_mut().enumerate() {
-        equation.extend(&prefixes[i * blocks..(i + 1) * blocks]);
-    }
-    let solutions = solve(system);
-    let message = (0..length).map(|place| solutions[place % m][place / m]).collect();
+    let mut message = blocks_of_prefixes(m, z, counts, parties, prefixes, blocks);
+    message.truncate(length);
     Ok((used as u64, message))
+}
+
+/// The length of the message that these blocks are padded from.
+fn unpadded_length(m: usize, string: &[u8]) -> Result<usize, u64> {
+    let last_block = string.len() - m;
+    let end = string.iter().rposition(|&byte| byte != 0).filter(|&place| place >= last_block && string[place] == 128);
+    end.filter(|&length| length <= LONGEST_MESSAGE).ok_or(11)
+}
+
+/// The bytes used, the length of the padded message, and its blocks, padding and all.
+pub fn reconstruct_padded(
+    n: u8,
+    r: u8,
+    z: u8,
+    counts: &[u8],
+    parties: &[u8],
+    prefixes: &[u8],
+    out: usize,
+) -> Result<((u64, u64), Vec<u8>), u64> {
+    let (m, _) = sizes(n, r, z, counts)?;
+    let (d, z) = (parties.len(), z as usize);
+    first_refusal(&[(!is_count(counts, d), 6), (parties_are_bad(n, parties), 7)])?;
+    let of_a_block = d * (m / (d - z));
+    let blocks = padded_blocks(m, of_a_block, prefixes.len())?;
+    first_refusal(&[(out != blocks * m, 10)])?;
+    let string = blocks_of_prefixes(m, z, counts, parties, prefixes, blocks);
+    let length = unpadded_length(m, &string)?;
+    Ok((((of_a_block * blocks) as u64, length as u64), string))
 }

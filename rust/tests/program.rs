@@ -1,5 +1,6 @@
 //! The program `sharing`, run as its users run it, in a folder of its own.
 
+use gilunavoi::library;
 use gilunavoi::limits::MAX_MESSAGE;
 use std::fs;
 use std::path::PathBuf;
@@ -99,53 +100,128 @@ fn text(bytes: &[u8]) -> String {
     String::from_utf8(bytes.to_vec()).expect("text")
 }
 
-/// Splits a message, and opens it from each of the lists of parties.
-fn round_trip(folder: &Folder, option: &str, length: usize, keys: usize, readings: &[&[usize]]) {
+/// The words of a command line that ask for a form of message: of `split`, and of the other two.
+fn padded(_: usize) -> (String, String) {
+    (String::new(), String::new())
+}
+
+fn unpadded(length: usize) -> (String, String) {
+    ("--unpadded ".to_string(), format!("--length {length} "))
+}
+
+/// Cuts prefixes for these parties and opens them: what is said at last. Nothing of it stays.
+fn opened(folder: &Folder, options: &str, parties: &[usize]) -> (String, Vec<u8>) {
+    let mut line = format!("reconstruct {options}opened");
+    for party in parties {
+        let d = parties.len();
+        folder.says(&format!("prefix {options}--readers {d} shares/share-{party} part-{party}"));
+        line += &format!(" {party}=part-{party}");
+    }
+    let sent: usize = parties.iter().map(|party| folder.bytes(&format!("part-{party}")).len()).sum();
+    let said = folder.says(&line);
+    assert!(said.contains(&format!(" {sent} bytes were fetched from {} parties", parties.len())), "{said}");
+    let message = folder.bytes("opened");
+    for party in parties {
+        fs::remove_file(folder.0.join(format!("part-{party}"))).expect("removed");
+    }
+    fs::remove_file(folder.0.join("opened")).expect("removed");
+    (said, message)
+}
+
+/// Splits a message, and opens it from each of the lists of parties. The keys have the length that is needed.
+fn round_trip(
+    folder: &Folder,
+    form: fn(usize) -> (String, String),
+    scheme: &str,
+    length: usize,
+    keys: usize,
+    readings: &[&[usize]],
+) {
+    let (split, read) = form(length);
     folder.write("message", length);
     folder.write("keys", keys);
-    let said = folder.says(&format!("split {option}message keys shares"));
-    assert!(said.contains(&format!("length, {length}:")), "{said}");
+    let said = folder.says(&format!("split {scheme}{split}message keys shares"));
+    assert_eq!(said.contains(&format!("\nKeep the message's length, {length}: ")), !split.is_empty(), "{said}");
     for parties in readings {
-        let mut line = format!("reconstruct {option}--length {length} opened");
-        for party in *parties {
-            let d = parties.len();
-            folder.says(&format!("prefix {option}--length={length} --readers {d} shares/share-{party} part-{party}"));
-            line += &format!(" {party}=part-{party}");
-        }
-        let sent: usize = parties.iter().map(|party| folder.bytes(&format!("part-{party}")).len()).sum();
-        let said = folder.says(&line);
-        assert!(said.contains(&format!(" {sent} bytes were fetched from {} parties", parties.len())), "{said}");
-        assert!(said.contains("\nNothing can tell whether the scheme, "), "{said}");
-        assert_eq!(folder.bytes("opened"), folder.bytes("message"));
-        fs::remove_file(folder.0.join("opened")).expect("removed");
-        for party in *parties {
-            fs::remove_file(folder.0.join(format!("part-{party}"))).expect("removed");
-        }
+        let (said, message) = opened(folder, &format!("{scheme}{read}"), parties);
+        assert_eq!(said.contains("\nNothing can tell whether the scheme, the length, "), !read.is_empty(), "{said}");
+        assert_eq!(said.contains("\nOnly its end could be checked: "), read.is_empty(), "{said}");
+        assert_eq!(message, folder.bytes("message"));
     }
     fs::remove_dir_all(folder.0.join("shares")).expect("removed");
 }
 
+/// In both forms. A padded message that fills its blocks has one more, and so has an empty one.
 #[test]
 fn round_trips() {
     let folder = Folder::new("round");
     // The parties may be named in any order.
     let readings: [&[usize]; 4] = [&[1, 2, 3, 4, 5], &[5, 1, 4, 2], &[2, 4, 5], &[3, 2, 1]];
-    for (length, keys) in [(100, 54), (0, 0), (12, 6), (MAX_MESSAGE, 8196)] {
-        round_trip(&folder, "", length, keys, &readings);
+    for (length, keys, earlier_keys) in [(100, 54, 54), (0, 6, 0), (11, 6, 6), (12, 12, 6), (MAX_MESSAGE, 8196, 8196)] {
+        round_trip(&folder, padded, "", length, keys, &readings);
+        round_trip(&folder, unpadded, "", length, earlier_keys, &readings);
     }
-    round_trip(&folder, "--scheme=7,3,2,7,5,4 ", 61, 90, &[&[7, 6, 5, 4, 3, 2, 1], &[1, 3, 5, 6, 7], &[2, 4, 6, 7]]);
+    let readings: [&[usize]; 3] = [&[7, 6, 5, 4, 3, 2, 1], &[1, 3, 5, 6, 7], &[2, 4, 6, 7]];
+    for form in [padded, unpadded] {
+        round_trip(&folder, form, "--scheme=7,3,2,7,5,4 ", 61, 90, &readings);
+    }
     assert_eq!(folder.names().len(), 2, "the message and the keys");
 }
 
-/// Without a scheme the program takes the one that the library takes.
+/// The longest message under blocks of one byte: the most blocks that there are.
+#[test]
+fn the_most_blocks() {
+    let folder = Folder::new("most");
+    round_trip(&folder, padded, "--scheme=2,0,1,2 ", MAX_MESSAGE, MAX_MESSAGE + 1, &[&[1, 2]]);
+    round_trip(&folder, unpadded, "--scheme=2,0,1,2 ", MAX_MESSAGE, MAX_MESSAGE, &[&[1, 2]]);
+}
+
+/// Without a scheme the program takes the one that the library takes, and the form that was asked for.
 #[test]
 fn the_default_scheme() {
     let folder = Folder::new("default");
     folder.write("message", 25);
     folder.write("keys", 18);
+    let (message, keys) = (folder.bytes("message"), folder.bytes("keys"));
     folder.says("split message keys shares");
-    let expected = expected_shares(&folder.bytes("message"), &folder.bytes("keys"));
-    assert_eq!(folder.shares("shares"), expected);
+    assert_eq!(folder.shares("shares"), expected_shares(library::split_padded_default, &message, &keys));
+    folder.says("split --unpadded message keys unpadded");
+    assert_eq!(folder.shares("unpadded"), expected_shares(library::split_default, &message, &keys));
+}
+
+/// What is said to who takes shares of one form for the other. The message of 24 bytes fills its blocks, so that its
+/// shares are longer in the padded form; those of the message of 25 bytes are not.
+#[test]
+fn the_two_forms_mixed_up() {
+    let folder = Folder::new("mixed");
+    let need = "shares of the earlier form, which split --unpadded writes, need --length\n";
+    let only = "--length is for shares of the earlier form, which split --unpadded writes\n";
+    for (name, length, keys, earlier_keys) in [("25", 25, 18, 18), ("24", 24, 18, 12), ("0", 0, 6, 0)] {
+        folder.write(name, length);
+        folder.write("keys", keys);
+        folder.says(&format!("split {name} keys padded-{name}"));
+        folder.write("keys", earlier_keys);
+        folder.says(&format!("split --unpadded {name} keys earlier-{name}"));
+    }
+    let reading = |shares: &str| format!("1={shares}/share-1 2={shares}/share-2 5={shares}/share-5");
+
+    // Shares of the earlier form without their length.
+    for name in ["24", "25"] {
+        let line = format!("reconstruct out {}", reading(&format!("earlier-{name}")));
+        folder.refuses(&line, 11, "the parties are [1, 2, 5], and the scheme is N 5, ");
+        folder.refuses(&line, 11, need);
+    }
+    folder.refuses("prefix --readers 3 earlier-0/share-1 out", 9, need);
+    folder.refuses(&format!("reconstruct out {}", reading("earlier-0")), 9, need);
+
+    // Padded shares with the length: it comes out as it was told.
+    folder.says(&format!("reconstruct --length 25 right {}", reading("padded-25")));
+    assert_eq!(folder.bytes("right"), folder.bytes("25"));
+    folder.says(&format!("reconstruct --length 26 longer {}", reading("padded-25")));
+    assert_eq!(folder.bytes("longer"), [folder.bytes("25"), vec![128]].concat());
+    folder.refuses("prefix --length 24 --readers 3 padded-24/share-1 out", 9, only);
+    folder.refuses(&format!("reconstruct --length 24 out {}", reading("padded-24")), 9, only);
+    folder.refuses(&format!("reconstruct --length 0 out {}", reading("padded-0")), 9, only);
 }
 
 #[test]
@@ -186,53 +262,169 @@ fn schemes() {
     }
     folder.write("message", 3);
     folder.refuses("split --scheme 5,2,1 message message shares", 3, "Z 1, no counts");
-    folder.refuses("prefix --scheme 5,5,1,5 --length 3 --readers 5 message out", 2, "R 5");
-    folder.refuses("reconstruct --scheme 0,5,1,5 --length 3 out 1=message", 1, "N 0");
+    for length in ["", "--length 3 "] {
+        folder.refuses(&format!("prefix --scheme 5,5,1,5 {length}--readers 5 message out"), 2, "R 5");
+        folder.refuses(&format!("reconstruct --scheme 0,5,1,5 {length}out 1=message"), 1, "N 0");
+    }
 }
 
 #[test]
-fn refusals() {
-    let folder = Folder::new("refusals");
+fn refusals_of_split() {
+    let folder = Folder::new("refusals-split");
     let long = MAX_MESSAGE + 1;
-    for (name, length) in [("message", 25), ("keys", 18), ("short", 17), ("long", long), ("endless", 1 << 21)] {
+    for (name, length) in [("message", 24), ("keys", 18), ("short", 17), ("long", long), ("endless", 1 << 21)] {
         folder.write(name, length);
     }
-    folder.refuses("split long keys shares", 5, &format!("\"long\" has {long} bytes"));
-    folder.refuses("split endless keys shares", 5, "\"endless\" has more than 1048576 bytes");
-    folder.refuses("split message short shares", 8, "needs 18 bytes, and \"short\" has 17 bytes");
-    folder.refuses("split message endless shares", 8, "needs 18 bytes, and \"endless\" has more than 1048576 bytes");
-    folder.says("split message keys shares");
+    for (unpadded, needed) in [("", 18), ("--unpadded ", 12)] {
+        let needs = format!("needs {needed} bytes, and");
+        folder.refuses(&format!("split {unpadded}long keys shares"), 5, &format!("\"long\" has {long} bytes"));
+        folder.refuses(&format!("split {unpadded}endless keys shares"), 5, "\"endless\" has more than 1048576 bytes");
+        folder.refuses(&format!("split {unpadded}message short shares"), 8, &format!("{needs} \"short\" has 17 bytes"));
+        let endless = format!("{needs} \"endless\" has more than 1048576 bytes");
+        folder.refuses(&format!("split {unpadded}message endless shares"), 8, &endless);
+    }
+}
 
+/// Of both forms, `length` being the option that asks for the earlier one. The message has 25 bytes.
+fn refusals_of_readers(folder: &Folder, unpadded: &str, length: &str) {
+    folder.write("message", 25);
+    folder.write("keys", 18);
+    folder.write("short", 17);
+    folder.says(&format!("split {unpadded}message keys shares"));
+    let lengths = |what: &str, of_a_block: usize, file: &str| match length {
+        "" => format!("\n{what} has {of_a_block} bytes for each of 1 to 1366 blocks, and {file} bytes\n"),
+        _ => format!("\nwith --length 25 {what} has {} bytes, and {file} bytes\n", 3 * of_a_block),
+    };
+
+    let no_count = "--readers is 2, and the scheme is N 5";
+    folder.refuses(&format!("prefix {length}--readers 2 shares/share-1 out"), 6, no_count);
+    let wrong = lengths("a share", 6, "\"short\" has 17");
+    folder.refuses(&format!("prefix {length}--readers 4 short out"), 9, &wrong);
+    for party in 1..=5 {
+        folder.says(&format!("prefix {length}--readers 4 shares/share-{party} p{party}"));
+    }
+    for (parties, number, detail) in [
+        (" 1=p1 2=p2", 6, "the parties are [1, 2], and"),
+        ("", 6, "the parties are [], and"),
+        (
+            " 1=p1 2=p2 3=p3 4=p4 5=p5 6=p1 7=p2 8=p3 9=p4 10=p5 11=p1 12=p1 13=p1 14=p1 15=p1 16=p1",
+            6,
+            "14, 15, 16], and",
+        ),
+        (" 1=p1 4=p2 3=p3 4=p4", 7, "[1, 3, 4, 4]"),
+        (" 0=p1 2=p2 3=p3 4=p4", 7, "[0, 2, 3, 4]"),
+        (" 1=p1 2=p2 3=p3 6=p4", 7, "[1, 2, 3, 6]"),
+        (" 1=p1 2=short 3=p3 4=p4", 9, &lengths("a prefix for 4 parties", 4, "\"short\" has 17")),
+    ] {
+        folder.refuses(&format!("reconstruct {length}out{parties}"), number, detail);
+    }
+}
+
+#[test]
+fn refusals_of_readers_of_padded_messages() {
+    let folder = Folder::new("refusals-padded");
+    refusals_of_readers(&folder, "", "");
+    // The whole share of one party has 4 bytes for each of 4.5 blocks; with 20 bytes there are 5.
+    folder.refuses("reconstruct out 1=p1 2=p2 3=p3 4=shares/share-4", 9, "\"shares/share-4\" has 18 bytes");
+    folder.write("20", 20);
+    let unequal = "equally long, but \"p3\" has 12 bytes and \"20\" has 20 bytes";
+    folder.refuses("reconstruct out 1=p1 2=p2 3=p3 4=20", 9, unequal);
+    folder.write("empty", 0);
+    folder.refuses("prefix --readers 4 empty out", 9, "1366 blocks, and \"empty\" has 0 bytes");
+    folder.refuses("reconstruct out 1=empty 2=empty 3=empty 4=empty", 9, "1366 blocks, and \"empty\" has 0 bytes");
+    // One block more than the longest message has.
+    folder.write("long", 1367 * 6);
+    folder.refuses("prefix --readers 3 long out", 9, "1366 blocks, and \"long\" has 8202 bytes");
+    folder.refuses("reconstruct out 1=long 2=long 3=long", 9, "1366 blocks, and \"long\" has 8202 bytes");
+}
+
+#[test]
+fn refusals_of_readers_who_tell_the_length() {
+    let folder = Folder::new("refusals-told");
+    refusals_of_readers(&folder, "--unpadded ", "--length 25 ");
     let huge = usize::MAX;
     folder.refuses(&format!("prefix --length {huge} --readers 4 shares/share-1 out"), 5, &format!("{huge}"));
-    folder.refuses("prefix --length 25 --readers 2 shares/share-1 out", 6, "--readers is 2, and the scheme is N 5");
-    folder.refuses("prefix --length 25 --readers 4 short out", 9, "a share has 18 bytes, and \"short\" has 17 bytes");
-
-    for party in 1..=5 {
-        folder.says(&format!("prefix --length 25 --readers 4 shares/share-{party} p{party}"));
-    }
     let all = "1=p1 2=p2 3=p3 4=p4";
     folder.refuses(&format!("reconstruct --length {huge} out {all}"), 5, &format!("{huge}"));
-    folder.refuses("reconstruct --length 25 out 1=p1 2=p2", 6, "the parties are [1, 2], and");
-    folder.refuses("reconstruct --length 25 out", 6, "the parties are [], and");
-    folder.refuses("reconstruct --length 25 out 1=p1 4=p2 3=p3 4=p4", 7, "[1, 3, 4, 4]");
-    folder.refuses("reconstruct --length 25 out 0=p1 2=p2 3=p3 4=p4", 7, "[0, 2, 3, 4]");
-    folder.refuses("reconstruct --length 25 out 1=p1 2=p2 3=p3 6=p4", 7, "[1, 2, 3, 6]");
-    folder.refuses(
-        "reconstruct --length 25 out 1=p1 2=shares/share-2 3=p3 4=p4",
-        9,
-        "has 12 bytes, and \"shares/share-2\" has 18 bytes",
-    );
+}
+
+/// Splits a message of two blocks, and cuts prefixes for 5 readers out of the shares.
+fn two_blocks(folder: &Folder, name: &str, message: &[u8]) {
+    fs::write(folder.0.join(name), message).expect("a written file");
+    fs::write(folder.0.join("keys"), &message[..12]).expect("a written file");
+    folder.says(&format!("split {name} keys {name}-shares"));
+    for party in 1..=5 {
+        folder.says(&format!("prefix --readers 5 {name}-shares/share-{party} {name}-shares/short-{party}"));
+    }
+}
+
+/// Opens from three parties, the files of the first two being named alike.
+fn of_three(options: &str, files: &str, last: &str) -> String {
+    format!("reconstruct {options}out 1={files}-1 2={files}-2 3={last}")
+}
+
+/// Prefixes that do not end as a padded message does: a share of another message, of another party, another scheme, and
+/// prefixes that were cut for more readers, so that they look like those of fewer blocks.
+#[test]
+fn no_end() {
+    let folder = Folder::new("no-end");
+    two_blocks(&folder, "a", b"Call the client.");
+    two_blocks(&folder, "b", b"The car is here.");
+    for (options, files, last) in [
+        ("", "a-shares/share", "b-shares/share-3"),
+        ("", "a-shares/share", "a-shares/share-4"),
+        ("--scheme 4,1,1,4,3 ", "a-shares/share", "a-shares/share-3"),
+        ("", "a-shares/short", "a-shares/short-3"),
+    ] {
+        let line = of_three(options, files, last);
+        folder.refuses(&line, 11, "the parties are [1, 2, 3], and the scheme is N ");
+        folder.refuses(&line, 11, "\nevery prefix must have been cut for 3 readers, and shares of the earlier form, ");
+    }
+    folder.says(&of_three("", "a-shares/share", "a-shares/share-3"));
+    assert_eq!(folder.bytes("out"), folder.bytes("a"));
+}
+
+/// The end is all that is looked at, and it is said that the rest may be wrong. Here it is: a false byte of another block;
+/// prefixes that were cut for more readers, and whole shares where prefixes are needed (read for another number of
+/// parties, the rows of these two messages end in 128 too); shares of the earlier form whose message ends in a byte 128.
+#[test]
+fn what_goes_unnoticed() {
+    let folder = Folder::new("unnoticed");
+    two_blocks(&folder, "a", b"Call the client back.");
+    two_blocks(&folder, "b", b"Call the client at noon");
+    let mut share = folder.bytes("a-shares/share-3");
+    share[0] ^= 1;
+    fs::write(folder.0.join("false"), share).expect("a written file");
+    let five: String = (1..=5).map(|party| format!(" {party}=b-shares/share-{party}")).collect();
+    // In UTF-8 its last letter ends in a byte 128.
+    fs::write(folder.0.join("c"), "Rendez-vous À").expect("a written file");
+    folder.says("split --unpadded c keys c-shares");
+    for (line, message, length) in [
+        (of_three("", "a-shares/share", "false"), "a", 21),
+        (of_three("", "a-shares/short", "a-shares/short-3"), "a", 11),
+        (format!("reconstruct out{five}"), "b", 45),
+        (of_three("", "c-shares/share", "c-shares/share-3"), "c", 13),
+    ] {
+        let said = folder.says(&line);
+        assert!(said.contains("form or number of readers can go unnoticed.\n"), "{said}");
+        let opened = folder.bytes("out");
+        assert!(opened.len() == length && opened != folder.bytes(message), "{line}: {said}");
+        fs::remove_file(folder.0.join("out")).expect("removed");
+    }
 }
 
 /// The joined prefixes have the right length, and yet two of them are not what a party sends.
 #[test]
 fn one_prefix_too_long_and_one_too_short() {
     let folder = Folder::new("odd");
-    for (name, length) in [("a", 12), ("b", 13), ("c", 11), ("d", 12)] {
+    for (name, length) in [("a", 12), ("b", 13), ("c", 11), ("d", 12), ("e", 16), ("f", 8)] {
         folder.write(name, length);
     }
     folder.refuses("reconstruct --length 25 out 1=a 2=b 3=c 4=d", 9, "has 12 bytes, and \"b\" has 13 bytes");
+    folder.refuses("reconstruct out 1=a 2=b 3=c 4=d", 9, "1366 blocks, and \"b\" has 13 bytes");
+    // One block more and one less.
+    folder.refuses("reconstruct --length 25 out 1=a 2=d 3=e 4=f", 9, "has 12 bytes, and \"e\" has 16 bytes");
+    folder.refuses("reconstruct out 1=a 2=d 3=e 4=f", 9, "but \"d\" has 12 bytes and \"e\" has 16 bytes");
 }
 
 #[test]
@@ -249,18 +441,20 @@ fn nothing_is_overwritten_or_left_behind() {
 
     // A link to nowhere is a name that is taken too.
     std::os::unix::fs::symlink("nowhere", folder.0.join("link")).expect("a link");
-    folder.fails("prefix --length 25 --readers 3 keys link", 1);
-    let said = folder.fails("prefix --length 25 --readers 3 keys message", 1);
+    folder.fails("prefix --readers 3 keys link", 1);
+    let said = folder.fails("prefix --readers 3 keys message", 1);
     assert!(said.contains("\"message\" exists already"), "{said}");
     assert!(folder.fails("split message keys message", 1).contains("cannot make the folder \"message\""));
     assert!(folder.fails("split message keys no/folder", 1).contains("cannot make the folder \"no/folder\""));
-    assert!(folder.fails("prefix --length 25 --readers 3 keys no/out", 1).contains("cannot write \"no/out\": "));
+    assert!(folder.fails("prefix --readers 3 keys no/out", 1).contains("cannot write \"no/out\": "));
 }
 
+type Splitter = fn(&[u8], &[u8], &mut [u8]) -> library::Answer;
+
 /// The shares that the default scheme makes of a message, party after party.
-fn expected_shares(message: &[u8], keys: &[u8]) -> Vec<u8> {
+fn expected_shares(split: Splitter, message: &[u8], keys: &[u8]) -> Vec<u8> {
     let mut shares = vec![0; 5 * keys.len()];
-    assert_eq!(gilunavoi::library::split_default(message, keys, &mut shares), Ok(keys.len() as u64));
+    assert_eq!(split(message, keys, &mut shares), Ok(keys.len() as u64));
     shares
 }
 
@@ -281,7 +475,7 @@ fn runs_at_once_into_one_folder() {
         let winners: Vec<&str> =
             messages.into_iter().zip(ends).filter(|(_, well)| *well).map(|(name, _)| name).collect();
         let [winner] = winners[..] else { panic!("{winners:?} succeeded") };
-        let expected = expected_shares(&folder.bytes(winner), &folder.bytes("keys"));
+        let expected = expected_shares(library::split_padded_default, &folder.bytes(winner), &folder.bytes("keys"));
         assert_eq!(folder.shares(&shares), expected, "round {round}");
         assert_eq!(fs::read_dir(folder.0.join(&shares)).expect("a folder").count(), 5, "nothing but the shares");
     }
@@ -308,7 +502,7 @@ fn a_failure_in_the_middle() {
     shell_fails(&folder, limited, "cannot write \"shares/share-1\": ");
     assert_eq!(folder.names(), left);
 
-    // Nobody learns the message's length where standard output is full or closed, so the shares go again.
+    // Nobody is told of the shares where standard output is full or closed, so they go again.
     for output in ["/dev/full", "&-"] {
         let line = format!("exec \"$0\" split message keys shares >{output}");
         shell_fails(&folder, &line, "cannot write to standard output: ");
@@ -332,7 +526,7 @@ fn interrupts() {
     use std::os::unix::process::ExitStatusExt;
     let folder = Folder::new("interrupts");
     folder.write("message", MAX_MESSAGE);
-    folder.write("keys", MAX_MESSAGE);
+    folder.write("keys", MAX_MESSAGE + 1);
     let left = folder.names();
     let command = || folder.command("split --scheme 16,14,1,2 message keys shares").spawn().expect("it runs");
     let start = Instant::now();
@@ -366,8 +560,8 @@ fn unreadable_files() {
     assert!(folder.fails("split absent keys shares", 1).contains("cannot read \"absent\": "));
     assert!(folder.fails("split . keys shares", 1).contains("cannot read \".\": "));
     assert!(folder.fails("split keys . shares", 1).contains("cannot read \".\": "));
-    assert!(folder.fails("prefix --length 3 --readers 3 absent out", 1).contains("cannot read \"absent\": "));
-    assert!(folder.fails("reconstruct --length 3 out 1=absent", 1).contains("cannot read \"absent\": "));
+    assert!(folder.fails("prefix --readers 3 absent out", 1).contains("cannot read \"absent\": "));
+    assert!(folder.fails("reconstruct out 1=absent", 1).contains("cannot read \"absent\": "));
 }
 
 #[test]
@@ -406,15 +600,22 @@ fn bad_usage() {
         "split --scheme 5,2,1,256 message keys shares",
         "split --scheme 5,2,1,5 --scheme 5,2,1,5 message keys shares",
         "split message keys shares --scheme",
+        "split --unpadded --unpadded message keys shares",
+        "split --unpadded= message keys shares",
+        "split --unpadded=yes message keys shares",
+        "split --unpad message keys shares",
         "split --length 5 message keys shares",
         "split --=5 message keys shares",
         "prefix --length= --readers 3 share out",
         "prefix --length=25 --length=25 --readers 3 share out",
         "prefix --length 25 share out",
-        "prefix --readers 3 share out",
+        "prefix share out",
+        "prefix --unpadded --readers 3 share out",
         "prefix --length 25 --readers three share out",
         "prefix --length 99999999999999999999999 --readers 3 share out",
-        "reconstruct out 1=p1",
+        "reconstruct",
+        "reconstruct --unpadded out 1=p1",
+        "reconstruct --length out 1=p1",
         "reconstruct --length 25",
         "reconstruct --length 25 out p1",
         "reconstruct --length 25 out 256=p1",
@@ -435,15 +636,16 @@ fn plain_words() {
         ("split message keys", 2, "and 2 words were given"),
         ("scheme 300 2 1 5,4,3", 2, "\"300\" is too large: numbers end at 255 here"),
         ("scheme 5 -2 1 5", 2, "needed is a number, not \"-2\""),
+        ("split --unpadded=no message keys shares", 2, "--unpadded has no value, and \"no\" was given"),
         (
             "prefix --length 99999999999999999999999 --readers 3 share out",
             2,
             "--length: \"99999999999999999999999\" is too",
         ),
-        ("prefix --length 1 --readers 3 share out/", 2, "\"out/\" is not the name of a file"),
-        ("prefix --length 1 --readers 3 share out/.", 2, "\"out/.\" is not the name of a file"),
-        ("reconstruct --length 1 out/ 1=share 2=share 3=share", 2, "\"out/\" is not the name of a file"),
-        ("reconstruct --length 1 1=share 2=share 3=share", 2, "OUT is missing: \"1=share\" looks like PARTY=FILE"),
+        ("prefix --readers 3 share out/", 2, "\"out/\" is not the name of a file"),
+        ("prefix --readers 3 share out/.", 2, "\"out/.\" is not the name of a file"),
+        ("reconstruct out/ 1=share 2=share 3=share", 2, "\"out/\" is not the name of a file"),
+        ("reconstruct 1=share 2=share 3=share", 2, "OUT is missing: \"1=share\" looks like PARTY=FILE"),
         ("prefix --length 1 --readers 3 share out", 1, "a share has 6 bytes, and \"share\" has 1 byte\n"),
     ] {
         assert!(folder.fails(line, status).contains(words), "{line}");
@@ -456,7 +658,7 @@ fn plain_words() {
 fn any_file_name() {
     use std::os::unix::ffi::OsStrExt;
     let folder = Folder::new("names");
-    folder.write("keys", 0);
+    folder.write("keys", 6);
     let name = std::ffi::OsStr::from_bytes(b"\xff=\xfe");
     fs::write(folder.0.join(name), b"").expect("a file");
     let mut command = Command::new(env!("CARGO_BIN_EXE_sharing"));

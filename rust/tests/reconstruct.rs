@@ -1,9 +1,9 @@
-//! The basis and the opener against the other implementation, and round trips.
+//! The basis and the opener against the other implementation, and round trips, in both forms of message.
 
-use gilunavoi::cases::{all_schemes, length, parties, Call, Scheme};
+use gilunavoi::cases::{all_schemes, length, parties, Call, Form, Scheme, FORMS};
 use gilunavoi::limits::{MAX_BLOCK, MAX_MESSAGE, MAX_PARTIES};
 use gilunavoi::random::Random;
-use gilunavoi::{compare, library, reference};
+use gilunavoi::{calls, compare};
 
 #[test]
 fn the_basis_of_every_list_of_parties() {
@@ -14,7 +14,7 @@ fn the_basis_of_every_list_of_parties() {
         let d = parties.len() as u8;
         // With fewer than two parties no scheme is accepted.
         if let Some(scheme) = Scheme::new(MAX_PARTIES, MAX_PARTIES - d, 1, vec![d]) {
-            assert_eq!(compare::basis(&Call::new(&scheme, 0, parties), &mut random), Ok(()));
+            assert_eq!(compare::basis(&Call::new(Form::Earlier, &scheme, 0, parties), &mut random), Ok(()));
             lists += 1;
         }
     }
@@ -27,22 +27,25 @@ fn bases_of_drawn_schemes() {
     let mut random = Random::new(8);
     for case in 0..10_000 {
         let scheme = if case % 10 == 0 { Scheme::default() } else { Scheme::drawn(&mut random, MAX_BLOCK) };
-        let call = Call::drawn(&mut random, &scheme, 0);
+        let call = Call::drawn(&mut random, Form::Earlier, &scheme, 0);
         assert_eq!(compare::basis(&call, &mut random), Ok(()));
     }
     println!("10000 lists");
 }
 
-/// Opens prefixes that no splitter wrote, for schemes with blocks of at most `longest` bytes.
+/// Opens prefixes for schemes with blocks of at most `longest` bytes: in the earlier form bytes that no splitter wrote, in
+/// the padded form those of drawn messages.
 fn openings(seed: u64, calls: usize, longest: usize, blocks: usize) {
     let mut random = Random::new(seed);
     for case in 0..calls {
         let scheme = if case % 20 == 0 { Scheme::default() } else { Scheme::drawn(&mut random, longest) };
         let length = random.below(blocks * scheme.m + 1);
-        let call = Call::drawn(&mut random, &scheme, length);
-        assert_eq!(compare::reconstruct(&call, &mut random), Ok(()));
+        for form in FORMS {
+            let call = Call::drawn(&mut random, form, &scheme, length);
+            assert_eq!(compare::reconstruct(&call, &mut random), Ok(()));
+        }
     }
-    println!("{calls} openings of blocks of at most {longest} bytes");
+    println!("{calls} openings in both forms of blocks of at most {longest} bytes");
 }
 
 #[test]
@@ -63,10 +66,12 @@ fn openings_of_the_longest_blocks() {
     let mut random = Random::new(14);
     let scheme = Scheme::new(9, 3, 1, vec![9, 8, 7, 6]).unwrap();
     for d in [9, 8, 7, 6] {
-        let call = Call::new(&scheme, 2000, parties(&mut random, 9, d));
-        assert_eq!(compare::reconstruct(&call, &mut random), Ok(()));
+        for form in FORMS {
+            let call = Call::new(form, &scheme, 2000, parties(&mut random, 9, d));
+            assert_eq!(compare::reconstruct(&call, &mut random), Ok(()));
+        }
     }
-    println!("4 openings of blocks of {} bytes", scheme.m);
+    println!("4 openings in both forms of blocks of {} bytes", scheme.m);
 }
 
 /// A message under drawn keys: its bytes and its shares, one after another.
@@ -77,31 +82,38 @@ struct Split {
 }
 
 fn split(call: &Call, random: &mut Random) -> Split {
-    let s = &call.scheme;
     let (message, keys) = (random.bytes(call.length), random.bytes(call.keys));
     let mut shares = vec![0; call.shares];
-    let written = library::split(s.n, s.r, s.z, &s.counts, &message, &keys, &mut shares);
+    let written = calls::split(call, &message, &keys, &mut shares);
     assert_eq!(written, Ok(call.share as u64), "{call:?}");
     Split { message, keys, shares }
 }
 
-/// Hands out the prefixes of the call's parties and opens them.
+/// Hands out the prefixes of the call's parties and opens them: message and length come back, and in the padded form the
+/// padding.
 fn comes_back(call: &Call, split: &Split) {
-    let (s, length) = (&call.scheme, call.length);
     let mut prefixes = Vec::new();
     for &party in &call.parties {
         let share = &split.shares[(party as usize - 1) * call.share..][..call.share];
-        let bytes = library::prefix(s.n, s.r, s.z, &s.counts, length, call.d, share).unwrap();
+        let bytes = calls::prefix(call, share).unwrap();
         prefixes.extend(&share[..bytes as usize]);
     }
-    let mut opened = vec![1; length];
-    let used = library::reconstruct(s.n, s.r, s.z, &s.counts, length, &call.parties, &prefixes, &mut opened);
-    assert_eq!(used, Ok(call.prefixes as u64), "{call:?}");
-    assert!(opened == split.message, "{call:?}");
+    let mut opened = vec![1; call.message];
+    let answer = calls::reconstruct(call, &prefixes, &mut opened);
+    assert_eq!(answer, Ok((call.prefixes as u64, call.length as u64)), "{call:?}");
+    let (message, padding) = opened.split_at(call.length);
+    assert!(message == split.message, "{call:?}");
+    match call.form {
+        Form::Earlier => assert_eq!(padding, [], "{call:?}"),
+        Form::Padded => assert!(padding[0] == 128 && padding[1..].iter().all(|&byte| byte == 0), "{call:?}"),
+    }
 }
 
-/// n, r, z and the counts: one to three colluding parties, neighbouring counts and gaps, short and the longest blocks.
-const SCHEMES: [(u8, u8, u8, &[u8]); 8] = [
+/// n, r, z and the counts: one to three colluding parties and fifteen, neighbouring counts and gaps, blocks of one byte,
+/// short ones and the longest.
+const SCHEMES: [(u8, u8, u8, &[u8]); 10] = [
+    (2, 0, 1, &[2]),
+    (16, 0, 15, &[16]),
     (5, 2, 1, &[5, 4, 3]),
     (7, 4, 1, &[7, 4, 3]),
     (9, 3, 1, &[9, 8, 7, 6]),
@@ -112,6 +124,15 @@ const SCHEMES: [(u8, u8, u8, &[u8]); 8] = [
     (12, 4, 3, &[12, 9, 8]),
 ];
 
+/// Lengths around the ends of blocks, of a batch of 64 blocks in either form, and of the longest message.
+fn lengths(m: usize) -> Vec<usize> {
+    let mut lengths = vec![0, 1, m - 1, m, m + 1, 63 * m, 64 * m, MAX_MESSAGE - 1, MAX_MESSAGE];
+    lengths.sort();
+    lengths.dedup();
+    lengths.retain(|&length| length <= MAX_MESSAGE);
+    lengths
+}
+
 /// The first d parties, the last d and d drawn ones; with d = n they are the same.
 fn sets_of_parties(random: &mut Random, n: u8, d: u8) -> Vec<Vec<u8>> {
     let mut sets = vec![(1..=d).collect(), (n - d + 1..=n).collect(), parties(random, n, d)];
@@ -121,30 +142,50 @@ fn sets_of_parties(random: &mut Random, n: u8, d: u8) -> Vec<Vec<u8>> {
     sets
 }
 
+/// Splits a message of this length for one count, with the shares that the other implementation makes too, and opens it
+/// from several sets of parties. Opens as many times what no splitter wrote, or in the padded form other messages.
+fn round_trips(random: &mut Random, form: Form, scheme: &Scheme, length: usize, d: u8) -> usize {
+    let sets = sets_of_parties(random, scheme.n, d);
+    let call = Call::new(form, scheme, length, sets[0].clone());
+    let split = split(&call, random);
+    let expected = compare::expected_shares(&call, &split.message, &split.keys);
+    assert!(expected.as_ref() == Ok(&split.shares), "{call:?}");
+    for parties in &sets {
+        let call = Call::new(form, scheme, length, parties.clone());
+        comes_back(&call, &split);
+        assert_eq!(compare::reconstruct(&call, random), Ok(()));
+    }
+    sets.len()
+}
+
 #[test]
-fn every_count_and_six_lengths() {
+fn every_count_and_the_ends_of_blocks_and_batches() {
     let mut random = Random::new(22);
     let (mut cases, mut openings) = (0, 0);
     for (n, r, z, counts) in SCHEMES {
         let scheme = Scheme::new(n, r, z, counts.to_vec()).unwrap();
-        for length in [0, 1, scheme.m - 1, scheme.m, scheme.m + 1, MAX_MESSAGE] {
+        for length in lengths(scheme.m) {
             for &d in counts {
-                let sets = sets_of_parties(&mut random, n, d);
-                let split = split(&Call::new(&scheme, length, sets[0].clone()), &mut random);
-                let expected = reference::split(n, r, z, counts, &split.message, &split.keys, split.shares.len());
-                assert!(expected.as_ref() == Ok(&split.shares), "{scheme:?}, {length} bytes");
-                for parties in sets {
-                    let call = Call::new(&scheme, length, parties);
-                    comes_back(&call, &split);
-                    assert_eq!(compare::reconstruct(&call, &mut random), Ok(()));
-                    openings += 1;
+                for form in FORMS {
+                    openings += round_trips(&mut random, form, &scheme, length, d);
+                    cases += 1;
                 }
-                cases += 1;
             }
         }
     }
-    println!("{cases} cases, {openings} openings of shares, and as many of drawn prefixes");
-    assert_eq!(cases, 22 * 6);
+    println!("{cases} cases, {openings} openings of shares, and as many of other prefixes");
+    assert_eq!(cases, 2 * 204);
+}
+
+/// Blocks of one byte: the longest message makes one block more than it has bytes.
+#[test]
+fn the_most_blocks() {
+    let scheme = Scheme::new(2, 0, 1, vec![2]).unwrap();
+    let call = Call::new(Form::Padded, &scheme, MAX_MESSAGE, vec![1, 2]);
+    assert_eq!((call.message, call.share, call.prefixes), (16_385, 16_385, 32_770));
+    let mut random = Random::new(25);
+    comes_back(&call, &split(&call, &mut random));
+    assert_eq!(compare::reconstruct(&call, &mut random), Ok(()));
 }
 
 #[test]
@@ -154,11 +195,13 @@ fn what_was_split_comes_back() {
     // Every third scheme, for the time that it takes.
     for scheme in all_schemes().iter().step_by(3) {
         let length = 1 + random.below(2 * scheme.m);
-        let call = Call::drawn(&mut random, scheme, length);
-        comes_back(&call, &split(&call, &mut random));
+        for form in FORMS {
+            let call = Call::drawn(&mut random, form, scheme, length);
+            comes_back(&call, &split(&call, &mut random));
+        }
         schemes += 1;
     }
-    println!("{schemes} schemes");
+    println!("{schemes} schemes in both forms");
     assert!(schemes > 16_000);
 }
 
@@ -170,11 +213,13 @@ fn longer_messages_come_back_for_every_count() {
         let scheme = if case % 10 == 0 { Scheme::default() } else { Scheme::drawn(&mut random, MAX_BLOCK) };
         let length = if case % 10 == 1 { MAX_MESSAGE } else { length(&mut random, scheme.m) };
         for &d in &scheme.counts {
-            let call = Call::new(&scheme, length, parties(&mut random, scheme.n, d));
-            comes_back(&call, &split(&call, &mut random));
-            openings += 1;
+            for form in FORMS {
+                let call = Call::new(form, &scheme, length, parties(&mut random, scheme.n, d));
+                comes_back(&call, &split(&call, &mut random));
+                openings += 1;
+            }
         }
     }
     println!("{openings} openings");
-    assert!(openings > 4000);
+    assert!(openings > 8000);
 }

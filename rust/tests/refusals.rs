@@ -1,7 +1,7 @@
-//! Refusals: each alone, and every two and three at once, for every call. The first in the order of the rules' table is
-//! the answer, and nothing is written.
+//! Refusals: each alone, and every two and three at once, for every call in both forms of message. The first in the order
+//! of the rules' table is the answer, and nothing is written.
 
-use gilunavoi::cases::{Call, Scheme, BAD_COUNTS};
+use gilunavoi::cases::{Call, Form, Scheme, BAD_COUNTS, FORMS};
 use gilunavoi::compare::{self, Compare};
 use gilunavoi::limits::{MAX_MESSAGE, MAX_PARTIES};
 use gilunavoi::random::Random;
@@ -51,13 +51,16 @@ const LENGTHS: [Fault; 7] = [
 ];
 
 /// For the prefix: numbers that are no count.
-const COUNTS: [Fault; 7] = [
+const COUNTS: [Fault; 10] = [
     (6, |c| c.d = 0),
     (6, |c| c.d = (c.scheme.n - c.scheme.r - 1) as usize),
     (6, |c| c.d = c.scheme.z as usize),
     (6, |c| c.d = c.scheme.n as usize + 1),
     (6, |c| c.d += 256),
     (6, |c| c.d += 1 << 32),
+    (6, |c| c.d += 1 << 63),
+    (6, |c| c.d = c.d.wrapping_neg()),
+    (6, |c| c.d = usize::MAX - 1),
     (6, |c| c.d = usize::MAX),
 ];
 
@@ -102,10 +105,39 @@ const PREFIXES: [Fault; 4] = [
     (9, |c| c.prefixes = if c.prefixes == 0 { 1 } else { 0 }),
 ];
 
+/// In the padded form: a length that is no whole number of blocks, or none where every length is one; no block; and one
+/// block more than the longest message has.
+const PADDED_SHARE: [Fault; 3] = [
+    (9, |c| c.share = if c.scheme.b > 1 { c.share + 1 } else { 0 }),
+    (9, |c| c.share = 0),
+    (9, |c| c.share = (most_blocks(c) + 1) * c.scheme.b),
+];
+
+const PADDED_PREFIXES: [Fault; 4] = [
+    (9, |c| c.prefixes += 1),
+    (9, |c| c.prefixes -= 1),
+    (9, |c| c.prefixes = 0),
+    (9, |c| c.prefixes = (most_blocks(c) + 1) * (c.prefixes / Form::Padded.blocks(c.length, c.scheme.m))),
+];
+
+fn most_blocks(call: &Call) -> usize {
+    Form::Padded.blocks(MAX_MESSAGE, call.scheme.m)
+}
+
 const OUTPUTS: [Fault; 3] = [
     (10, |c| (c.shares, c.message) = (c.shares + 1, c.message + 1)),
     (10, |c| (c.shares, c.message) = (one_less(c.shares), one_less(c.message))),
     (10, |c| (c.shares, c.message) = (c.shares + c.scheme.b, c.message + c.scheme.m)),
+];
+
+/// In the padded form also: room for the message alone, and for one block less than there are.
+const PADDED_OUTPUTS: [Fault; 2] = [(10, |c| c.message = c.length), (10, |c| c.message -= c.scheme.m)];
+
+/// Another byte where 128 has to stand, and a last block of zeros, after one that ends with 128 if there is one.
+const ENDINGS: [Fault; 3] = [
+    (11, |c| c.end = Some((c.length, 127))),
+    (11, |c| c.end = Some((c.length, 1))),
+    (11, |c| c.end = Some((c.message - c.scheme.m).checked_sub(1).map_or((0, 0), |place| (place, 128)))),
 ];
 
 #[derive(Clone, Copy)]
@@ -144,22 +176,22 @@ fn choices(faults: &[(u64, Change)]) -> Vec<Vec<(u64, Change)>> {
 }
 
 /// Accepted calls: the default scheme with messages of some lengths, and drawn schemes.
-fn accepted_calls(random: &mut Random) -> Vec<Call> {
-    let mut calls: Vec<Call> = [0, 1, 100].map(|length| Call::drawn(random, &Scheme::default(), length)).into();
+fn accepted_calls(random: &mut Random, form: Form) -> Vec<Call> {
+    let mut calls: Vec<Call> = [0, 1, 100].map(|length| Call::drawn(random, form, &Scheme::default(), length)).into();
     for _ in 0..5 {
         let scheme = Scheme::drawn(random, 60);
         let length = random.below(2 * scheme.m + 1);
-        calls.push(Call::drawn(random, &scheme, length));
+        calls.push(Call::drawn(random, form, &scheme, length));
     }
     calls
 }
 
 /// Puts every choice of faults into accepted calls.
-fn refused(seed: u64, compare: Compare, of_the_call: &[&[Fault]]) {
+fn refused(seed: u64, form: Form, compare: Compare, of_the_call: &[&[Fault]]) {
     let mut random = Random::new(seed);
     let choices = choices(&faults(of_the_call));
     let (mut calls, mut default_forms) = (0, 0);
-    for accepted in accepted_calls(&mut random) {
+    for accepted in accepted_calls(&mut random, form) {
         assert_eq!(compare(&accepted, &mut random), Ok(()));
         for choice in &choices {
             let mut call = accepted.clone();
@@ -176,33 +208,49 @@ fn refused(seed: u64, compare: Compare, of_the_call: &[&[Fault]]) {
             default_forms += call.scheme.is_default() as usize;
         }
     }
-    println!("{} choices of faults, {calls} calls, {default_forms} of them in both forms", choices.len());
+    println!("{} choices of faults, {calls} calls, {default_forms} of them without a scheme too", choices.len());
     assert!(choices.len() > 800);
 }
 
 #[test]
 fn of_the_check() {
-    refused(16, |call, _| compare::check(&call.scheme), &[]);
+    refused(16, Form::Earlier, |call, _| compare::check(&call.scheme), &[]);
 }
 
 #[test]
 fn of_the_splitter() {
-    refused(17, compare::split, &[&MESSAGES, &KEYS, &OUTPUTS]);
+    refused(17, Form::Earlier, compare::split, &[&MESSAGES, &KEYS, &OUTPUTS]);
+}
+
+#[test]
+fn of_the_padded_splitter() {
+    refused(32, Form::Padded, compare::split, &[&MESSAGES, &KEYS, &OUTPUTS]);
 }
 
 #[test]
 fn of_the_prefix() {
-    refused(18, compare::prefix, &[&LENGTHS, &COUNTS, &SHARE]);
+    refused(18, Form::Earlier, compare::prefix, &[&LENGTHS, &COUNTS, &SHARE]);
+}
+
+#[test]
+fn of_the_padded_prefix() {
+    refused(33, Form::Padded, compare::prefix, &[&COUNTS, &PADDED_SHARE]);
 }
 
 #[test]
 fn of_the_basis() {
-    refused(19, compare::basis, &[&PARTIES]);
+    refused(19, Form::Earlier, compare::basis, &[&PARTIES]);
 }
 
 #[test]
 fn of_the_opener() {
-    refused(20, compare::reconstruct, &[&LENGTHS, &PARTIES, &PREFIXES, &OUTPUTS]);
+    refused(20, Form::Earlier, compare::reconstruct, &[&LENGTHS, &PARTIES, &PREFIXES, &OUTPUTS]);
+}
+
+#[test]
+fn of_the_padded_opener() {
+    let of_the_call: [&[Fault]; 5] = [&PARTIES, &PADDED_PREFIXES, &OUTPUTS, &PADDED_OUTPUTS, &ENDINGS];
+    refused(34, Form::Padded, compare::reconstruct, &of_the_call);
 }
 
 /// Changes a byte or a length by a little, or a byte to any other.
@@ -221,7 +269,7 @@ fn nearby_byte(random: &mut Random, byte: u8) -> u8 {
 fn damage(call: &mut Call, random: &mut Random) {
     let scheme = &mut call.scheme;
     let parties = &mut call.parties;
-    match random.below(14) {
+    match random.below(15) {
         0 => scheme.n = nearby_byte(random, scheme.n),
         1 => scheme.r = nearby_byte(random, scheme.r),
         2 => scheme.z = nearby_byte(random, scheme.z),
@@ -235,6 +283,7 @@ fn damage(call: &mut Call, random: &mut Random) {
         10 => call.keys = nearby(random, call.keys),
         11 => call.share = nearby(random, call.share),
         12 => call.prefixes = nearby(random, call.prefixes),
+        13 => call.end = call.end.map(|(place, byte)| (nearby(random, place), nearby_byte(random, byte))),
         _ => (call.shares, call.message) = (nearby(random, call.shares), nearby(random, call.message)),
     }
 }
@@ -243,18 +292,20 @@ fn damage(call: &mut Call, random: &mut Random) {
 fn drawn_damage() {
     let mut random = Random::new(21);
     let operations: [Compare; 4] = [compare::split, compare::prefix, compare::basis, compare::reconstruct];
-    let mut outcomes = [[0; 11]; 4];
-    for case in 0..30_000 {
-        let scheme = if case % 4 == 0 { Scheme::default() } else { Scheme::drawn(&mut random, 24) };
-        let length = random.below(3 * scheme.m + 1);
-        let mut call = Call::drawn(&mut random, &scheme, length);
-        for _ in 0..1 + random.below(3) {
-            damage(&mut call, &mut random);
+    for form in FORMS {
+        let mut outcomes = [[0; 12]; 4];
+        for case in 0..30_000 {
+            let scheme = if case % 4 == 0 { Scheme::default() } else { Scheme::drawn(&mut random, 24) };
+            let length = random.below(3 * scheme.m + 1);
+            let mut call = Call::drawn(&mut random, form, &scheme, length);
+            for _ in 0..1 + random.below(3) {
+                damage(&mut call, &mut random);
+            }
+            for (operation, outcomes) in operations.iter().zip(&mut outcomes) {
+                outcomes[operation(&call, &mut random).err().unwrap_or(0) as usize] += 1;
+            }
         }
-        for (operation, outcomes) in operations.iter().zip(&mut outcomes) {
-            outcomes[operation(&call, &mut random).err().unwrap_or(0) as usize] += 1;
-        }
+        println!("30000 calls each, {form:?}, by refusal: {outcomes:?}");
+        assert!(outcomes.iter().all(|outcomes| outcomes[0] > 3000 && outcomes[0] < 20_000));
     }
-    println!("30000 calls each, by refusal: {outcomes:?}");
-    assert!(outcomes.iter().all(|outcomes| outcomes[0] > 3000 && outcomes[0] < 20_000));
 }

@@ -20,6 +20,24 @@ fn reconstruct(parties: &[u8], prefixes: &[u8]) -> (u64, Vec<u8>) {
     (used, out)
 }
 
+/// The same of padded messages.
+fn split_padded(message: &[u8], keys: &[u8], shares: usize) -> Vec<u8> {
+    let mut out = vec![0; shares];
+    let answer = library::split_padded(3, 1, 1, &[3, 2], message, keys, &mut out);
+    assert_eq!(answer, Ok(shares as u64 / 3));
+    assert_eq!(reference::split_padded(3, 1, 1, &[3, 2], message, keys, shares), Ok(out.clone()));
+    out
+}
+
+/// Opens blocks of two bytes: the bytes used, the length of the message, and the blocks.
+fn reconstruct_padded(parties: &[u8], prefixes: &[u8], blocks: usize) -> ((u64, u64), Vec<u8>) {
+    let mut out = vec![0; 2 * blocks];
+    let answer = library::reconstruct_padded(3, 1, 1, &[3, 2], parties, prefixes, &mut out).unwrap();
+    let expected = reference::reconstruct_padded(3, 1, 1, &[3, 2], parties, prefixes, 2 * blocks);
+    assert_eq!(expected, Ok((answer, out.clone())));
+    (answer, out)
+}
+
 fn check(n: u8, r: u8, z: u8, counts: &[u8]) -> library::Checked {
     let answer = library::check(n, r, z, counts);
     assert_eq!(answer, reference::check(n, r, z, counts));
@@ -44,6 +62,23 @@ fn shares_and_messages() {
     assert_eq!(reconstruct(&[1, 3], &[11, 3, 29, 13]), (4, vec![5, 7]));
 }
 
+/// Worked out by hand. Of one byte: the rows 9 + 5x + 128x² and 4 + 128x. A message that fills its blocks has one more,
+/// and the empty one has one.
+#[test]
+fn padded_messages() {
+    assert_eq!(split_padded(&[5], &[9, 4], 6), [140, 132, 53, 31, 176, 159]);
+    assert_eq!(split_padded(&[5, 7], &[9, 4, 2, 6], 12)[..4], [11, 130, 3, 6]);
+    assert_eq!(split_padded(&[], &[9, 4], 6)[..2], [137, 4]);
+    assert_eq!(reconstruct_padded(&[1, 2, 3], &[140, 53, 176], 1), ((3, 1), vec![5, 128]));
+    assert_eq!(reconstruct_padded(&[1, 3], &[140, 132, 176, 159], 1), ((4, 1), vec![5, 128]));
+    // From 128 0 under the keys 0 0, and from 5 7 128 0 under the keys 0 0 0 0.
+    assert_eq!(reconstruct_padded(&[1, 2], &[128, 0, 27, 0], 1), ((4, 0), vec![128, 0]));
+    assert_eq!(reconstruct_padded(&[1, 2], &[2, 128, 7, 0, 22, 27, 14, 0], 2), ((8, 2), vec![5, 7, 128, 0]));
+    // The prefixes of 5 7 in the earlier form.
+    assert_eq!(library::reconstruct_padded(3, 1, 1, &[3, 2], &[1, 2, 3], &[11, 31, 29], &mut [0; 2]), Err(11));
+    assert_eq!(reference::reconstruct_padded(3, 1, 1, &[3, 2], &[1, 2, 3], &[11, 31, 29], 2), Err(11));
+}
+
 #[test]
 fn schemes() {
     assert_eq!(check(3, 1, 1, &[3, 2]), Ok((2, 2)));
@@ -61,6 +96,10 @@ fn the_longest_message() {
     for (length, answer) in [(16384, Ok(1366 * 6)), (16385, Err(5))] {
         let mut out = vec![0; 1366 * 30];
         assert_eq!(library::split_default(&vec![1; length], &[2; 1366 * 6], &mut out), answer);
+        assert_eq!(library::split_padded_default(&vec![1; length], &[2; 1366 * 6], &mut out), answer);
         assert_eq!(library::prefix_default(length, 3, &[0; 1366 * 6]), answer);
+    }
+    for (blocks, answer) in [(0, Err(9)), (1, Ok(6)), (1366, Ok(1366 * 6)), (1367, Err(9))] {
+        assert_eq!(library::prefix_padded_default(3, &vec![0; blocks * 6]), answer);
     }
 }

@@ -3,7 +3,7 @@
 
 use super::measure::Program;
 use super::{Reconstruct, Split};
-use gilunavoi::cases::Scheme;
+use gilunavoi::cases::{parties, Form, Scheme};
 use gilunavoi::limits::MAX_MESSAGE;
 use gilunavoi::random::Random;
 
@@ -33,8 +33,9 @@ impl Series {
 }
 
 fn step(random: &mut Random, name: String, s: &Scheme, length: usize) -> Step {
-    let split = Split::new(random, s, length);
-    let reconstruct = Reconstruct::new(random, &split, *s.counts.last().expect("an accepted scheme has counts"));
+    let split = Split::new(random, Form::Earlier, s, length);
+    let lowest = *s.counts.last().expect("an accepted scheme has counts");
+    let reconstruct = Reconstruct::new(&split, parties(random, s.n, lowest));
     Step {
         name,
         split: Program::new(length, move || split.by_the_library()),

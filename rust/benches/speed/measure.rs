@@ -51,11 +51,12 @@ impl Program {
     }
 }
 
-/// A line of the table: a task, the library at it (or libgfshare), and the obvious program at it. `matched` is the place of
-/// libgfshare's line that it is compared with, where there is one.
+/// A line of the table: a task, the library at it (or libgfshare), the library at it for padded messages, and the obvious
+/// program at it. `matched` is the place of libgfshare's line that it is compared with, where there is one.
 pub struct Task {
     pub name: String,
     pub program: Program,
+    pub padded: Option<Program>,
     pub tables: Option<Program>,
     pub matched: Option<usize>,
 }
@@ -63,19 +64,22 @@ pub struct Task {
 impl Task {
     pub fn turn(&mut self) {
         self.program.turn();
-        if let Some(tables) = &mut self.tables {
-            tables.turn();
+        for other in [&mut self.padded, &mut self.tables].into_iter().flatten() {
+            other.turn();
         }
     }
 
-    /// Microseconds a call, best and median; message MB a second, best turn; the obvious program's; and how many times
-    /// faster than libgfshare the call is.
+    /// Microseconds a call, best and median; message MB a second, best turn; the obvious program's; microseconds of the
+    /// padded form, and how many times the first; and how many times faster than libgfshare the call is.
     pub fn line(&self, all: &[Task]) -> String {
         let program = &self.program;
         let (best, median) = (program.best() * 1e6, program.median() * 1e6);
         let times = format!("{best:9.3} {median:9.3} {:7.1}", program.megabytes_a_second());
-        let tables = self.tables.as_ref().map_or("      -".into(), |p| format!("{:7.1}", p.megabytes_a_second()));
+        let tables = self.tables.as_ref().map_or("-".into(), |p| format!("{:.1}", p.megabytes_a_second()));
+        let padded = self.padded.as_ref().map_or(["-".into(), "-".into()], |p| {
+            [format!("{:.3}", p.best() * 1e6), format!("{:.2}", p.best() / program.best())]
+        });
         let ratio = self.matched.map_or(String::new(), |i| format!("{:7.2}", all[i].program.best() / program.best()));
-        format!("{:66} {times} {tables} {ratio}", self.name)
+        format!("{:66} {times} {tables:>7} {:>9} {:>6} {ratio}", self.name, padded[0], padded[1])
     }
 }

@@ -1,11 +1,14 @@
-//! The words of the command line: options, which have a value each, after `=` or as the next word, and the words that
-//! are left.
+//! The words of the command line: options, which have a value each, after `=` or as the next word, flags, which have none,
+//! and the words that are left.
 
 use crate::failure::Failure;
 use crate::report::counted;
 use std::ffi::{OsStr, OsString};
 use std::os::unix::ffi::OsStrExt;
 use std::path::{Path, PathBuf};
+
+/// The options that have no value.
+const FLAGS: [&str; 1] = ["--unpadded"];
 
 pub struct Arguments {
     options: Vec<(&'static str, OsString)>,
@@ -35,7 +38,12 @@ impl Arguments {
                 let Some(name) = names.iter().find(|name| option == **name) else {
                     return usage(format!("there is no option {option:?} here"));
                 };
-                arguments.add_option(name, value.or_else(|| given.next().map(OsString::as_os_str)))?;
+                let value = match (FLAGS.contains(name), value) {
+                    (false, value) => value.or_else(|| given.next().map(OsString::as_os_str)),
+                    (true, None) => Some(OsStr::new("")),
+                    (true, Some(value)) => return usage(format!("{name} has no value, and {value:?} was given")),
+                };
+                arguments.add_option(name, value)?;
             } else {
                 arguments.words.push(word.clone());
             }
@@ -58,12 +66,19 @@ impl Arguments {
         self.options.iter().find(|(other, _)| *other == name).map(|(_, value)| value.as_os_str())
     }
 
+    pub fn flag(&self, name: &str) -> bool {
+        self.option(name).is_some()
+    }
+
+    /// The number that an option has, if it is given.
+    pub fn number_if_given(&self, name: &str) -> Result<Option<usize>, Failure> {
+        let given = self.option(name).map(|value| number(value, usize::MAX));
+        given.transpose().or_else(|reason| usage(format!("{name}: {reason}")))
+    }
+
     /// The number that an option must have.
     pub fn number(&self, name: &str) -> Result<usize, Failure> {
-        match self.option(name) {
-            Some(value) => number(value, usize::MAX).or_else(|reason| usage(format!("{name}: {reason}"))),
-            None => usage(format!("{name} is missing")),
-        }
+        self.number_if_given(name)?.map_or_else(|| usage(format!("{name} is missing")), Ok)
     }
 
     /// The words, if they are as many as the names.

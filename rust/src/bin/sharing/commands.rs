@@ -3,6 +3,7 @@
 use crate::arguments::{file_before_parties, party_and_file, usage, Arguments};
 use crate::failure::Failure;
 use crate::files::{read, Input, Output, Place};
+use crate::form::Form;
 use crate::help;
 use crate::interrupt;
 use crate::report::{counted, say};
@@ -23,7 +24,7 @@ struct Command {
 
 const COMMANDS: [Command; 4] = [
     Command { name: "scheme", help: help::scheme, options: &[], run: scheme },
-    Command { name: "split", help: help::split, options: &["--scheme"], run: split },
+    Command { name: "split", help: help::split, options: &["--scheme", "--unpadded"], run: split },
     Command { name: "prefix", help: help::prefix, options: &["--scheme", "--length", "--readers"], run: prefix },
     Command { name: "reconstruct", help: help::reconstruct, options: &["--scheme", "--length"], run: reconstruct },
 ];
@@ -53,7 +54,7 @@ fn scheme(arguments: &Arguments) -> Done {
          Bytes of a block to fetch:\nparties  from each  in all\n",
         counted(block.bytes, "byte"),
         counted(block.rows, "row"),
-        counted(block.keys(block.bytes), "key byte")
+        counted(block.keys(1), "key byte")
     );
     for d in scheme.counts.iter().map(|&d| d as usize) {
         let bytes = block.prefix_of_block(d);
@@ -73,44 +74,48 @@ fn finish(output: Output, text: String) -> Done {
 
 fn split(arguments: &Arguments) -> Done {
     let [message, keys, folder] = arguments.paths(["MESSAGE", "KEYS", "FOLDER"])?;
+    let unpadded = arguments.flag("--unpadded");
     let scheme = Scheme::of(arguments)?;
     let block = scheme.check()?;
     let (message, keys) = (read(message)?, read(keys)?);
-    let (length, share) = (message.bytes.len(), block.share(message.bytes.len()));
+    let length = message.bytes.len();
+    let blocks = if unpadded { block.blocks(length) } else { block.padded_blocks(length) };
+    let share = blocks * block.rows;
     let mut shares = vec![0; scheme.n as usize * share];
     let Scheme { n, r, z, ref counts } = scheme;
-    library::split(n, r, z, counts, &message.bytes, &keys.bytes, &mut shares).map_err(|number| match number {
-        8 => Failure::Refused(8, format!("it needs {}, and {keys}", counted(block.keys(length), "byte"))),
+    let split = if unpadded { library::split } else { library::split_padded };
+    split(n, r, z, counts, &message.bytes, &keys.bytes, &mut shares).map_err(|number| match number {
+        8 => Failure::Refused(8, format!("it needs {}, and {keys}", counted(block.keys(blocks), "byte"))),
         _ => Failure::Refused(number, message.to_string()),
     })?;
     let name = |party: u8| OsString::from(format!("share-{party}"));
     let part = |party: u8| &shares[(party as usize - 1) * share..party as usize * share];
     let files: Vec<(OsString, &[u8])> = (1..=n).map(|party| (name(party), part(party))).collect();
     let output = Output::in_folder(&folder, &files)?;
-    let told = format!(
-        "{n} shares of {} are in {folder:?}, share-1 to share-{n}.\n\
-         Keep the message's length, {length}: it is needed to open the message, and the shares do not hold it.\n",
-        counted(share, "byte")
-    );
+    let mut told = format!("{n} shares of {} are in {folder:?}, share-1 to share-{n}.\n", counted(share, "byte"));
+    if unpadded {
+        told += &format!("Keep the message's length, {length}: it is needed to open the message, ");
+        told += "and the shares do not hold it.\n";
+    }
     finish(output, told)
 }
 
 fn prefix(arguments: &Arguments) -> Done {
     let [share, out] = arguments.paths(["SHARE", "OUT"])?;
     let place = Place::new(&out)?;
-    let (length, d) = (arguments.number("--length")?, arguments.number("--readers")?);
+    let (form, d) = (Form::of(arguments)?, arguments.number("--readers")?);
     let scheme = Scheme::of(arguments)?;
     let block = scheme.check()?;
     let share = read(share)?;
     let Scheme { n, r, z, ref counts } = scheme;
-    let answer = library::prefix(n, r, z, counts, length, d, &share.bytes);
-    let bytes = answer.map_err(|number| {
-        let detail = match number {
-            6 => format!("--readers is {d}, and the scheme is {scheme}"),
-            9 => format!("a share has {}, and {share}", counted(block.share(length), "byte")),
-            _ => format!("--length is {length}"),
-        };
-        Failure::Refused(number, detail)
+    let answer = match form {
+        Form::Padded => library::prefix_padded(n, r, z, counts, d, &share.bytes),
+        Form::Told(length) => library::prefix(n, r, z, counts, length, d, &share.bytes),
+    };
+    let bytes = answer.map_err(|number| match (number, form) {
+        (5, Form::Told(length)) => Failure::Refused(5, format!("--length is {length}")),
+        (9, _) => form.wrong_length(&block, block.rows, "a share", &share),
+        _ => Failure::Refused(number, format!("--readers is {d}, and the scheme is {scheme}")),
     })?;
     let prefix = &share.bytes[..bytes as usize];
     let output = Output::one_file(&place, prefix)?;
@@ -129,17 +134,53 @@ fn prefixes(words: &[OsString]) -> Result<Vec<(u8, Input)>, Failure> {
     Ok(prefixes)
 }
 
-/// Refuses the first prefix whose length is not the one that so many parties send.
-fn check_each(block: &Block, length: usize, prefixes: &[(u8, Input)]) -> Done {
+/// Refuses the first prefix whose length is none that so many parties send, or is not the others'.
+fn check_each(block: &Block, form: Form, prefixes: &[(u8, Input)]) -> Done {
     let d = prefixes.len();
-    let needed = block.prefix(length, d);
-    match prefixes.iter().find(|(_, prefix)| prefix.bytes.len() != needed) {
+    let of_a_block = block.prefix_of_block(d);
+    for (_, prefix) in prefixes {
+        if !form.fits(block, of_a_block, prefix.bytes.len()) {
+            return Err(form.wrong_length(block, of_a_block, &format!("a prefix for {d} parties"), prefix));
+        }
+    }
+    match prefixes.windows(2).find(|pair| pair[0].1.bytes.len() != pair[1].1.bytes.len()) {
         None => Ok(()),
-        Some((_, odd)) => {
-            let needed = counted(needed, "byte");
-            let detail = format!("a prefix for {d} parties and --length {length} has {needed}, and {odd}");
+        Some(pair) => {
+            let detail = format!("the prefixes of one message are equally long, but {} and {}", pair[0].1, pair[1].1);
             Err(Failure::Refused(9, detail))
         }
+    }
+}
+
+/// The bytes used and the message, or the number of the refusal.
+fn open(scheme: &Scheme, block: &Block, form: Form, parties: &[u8], prefixes: &[u8]) -> Result<(u64, Vec<u8>), u64> {
+    let Scheme { n, r, z, ref counts } = *scheme;
+    if let Form::Told(length) = form {
+        // A longer message is refused before its room is looked at, so that no number asks for too much.
+        let mut message = vec![0; length.min(MAX_MESSAGE)];
+        let used = library::reconstruct(n, r, z, counts, length, parties, prefixes, &mut message)?;
+        return Ok((used, message));
+    }
+    let d = parties.len();
+    // Where d is no count, it is refused for that before its room is looked at.
+    let is_count = counts.iter().any(|&count| count as usize == d);
+    let blocks = if is_count { prefixes.len() / (d * block.prefix_of_block(d)) } else { 0 };
+    let mut message = vec![0; blocks * block.bytes];
+    let (used, length) = library::reconstruct_padded(n, r, z, counts, parties, prefixes, &mut message)?;
+    message.truncate(length as usize);
+    Ok((used, message))
+}
+
+/// What was given where the opener refused.
+fn readers_detail(number: u64, form: Form, parties: &[u8], scheme: &Scheme) -> String {
+    let readers = format!("the parties are {parties:?}, and the scheme is {scheme}");
+    match (number, form) {
+        (5, Form::Told(length)) => format!("--length is {length}"),
+        (11, _) => {
+            let d = parties.len();
+            format!("{readers}\nevery prefix must have been cut for {d} readers, and {}", form.hint())
+        }
+        _ => readers,
     }
 }
 
@@ -148,32 +189,22 @@ fn reconstruct(arguments: &Arguments) -> Done {
         return usage("needed are OUT and PARTY=FILE, as often as there are parties".to_string());
     };
     let place = Place::new(file_before_parties(out)?)?;
-    let length = arguments.number("--length")?;
+    let form = Form::of(arguments)?;
     let scheme = Scheme::of(arguments)?;
     let block = scheme.check()?;
     let prefixes = prefixes(words)?;
     let (parties, joined): (Vec<u8>, Vec<&[u8]>) =
         prefixes.iter().map(|(party, file)| (*party, &file.bytes[..])).unzip();
-    // A longer message is refused before its room is looked at, so that no number asks for too much.
-    let mut message = vec![0; length.min(MAX_MESSAGE)];
-    let Scheme { n, r, z, ref counts } = scheme;
-    let answer = library::reconstruct(n, r, z, counts, length, &parties, &joined.concat(), &mut message);
+    let answer = open(&scheme, &block, form, &parties, &joined.concat());
     // The library sees the prefixes joined: one too long and one too short by as much would pass there.
-    if let Ok(_) | Err(9) = answer {
-        check_each(&block, length, &prefixes)?;
+    if let Ok(_) | Err(9 | 11) = answer {
+        check_each(&block, form, &prefixes)?;
     }
-    let used = answer.map_err(|number| {
-        let detail = match number {
-            6 | 7 => format!("the parties are {parties:?}, and the scheme is {scheme}"),
-            _ => format!("--length is {length}"),
-        };
-        Failure::Refused(number, detail)
-    })?;
+    let (used, message) =
+        answer.map_err(|number| Failure::Refused(number, readers_detail(number, form, &parties, &scheme)))?;
     let output = Output::one_file(&place, &message)?;
-    let (length, d) = (counted(length, "byte"), parties.len());
-    let told = format!(
-        "The message, {length}, is in {out:?}; {used} bytes were fetched from {d} parties.\n\
-         Nothing can tell whether the scheme, the length, the parties and the prefixes were the right ones.\n"
-    );
+    let (length, d, caution) = (counted(message.len(), "byte"), parties.len(), form.caution());
+    let told =
+        format!("The message, {length}, is in {out:?}; {used} bytes were fetched from {d} parties.\n{caution}\n");
     finish(output, told)
 }

@@ -28,8 +28,12 @@ pub fn refusals() -> impl Iterator<Item = (u64, String)> {
         "the number of parties that are read from must be one of the scheme's counts".to_string(),
         "the parties must be different numbers from 1 to N".to_string(),
         "the key file has another length than this message needs".to_string(),
-        "a share or prefix has another length than this scheme and message length give".to_string(),
+        "a share or prefix has a length that it cannot have in this scheme, or for a message of this length".to_string(),
         "the room for the result has another length than the result".to_string(),
+        format!(
+            "the prefixes do not end as a padded message of at most {MAX_MESSAGE} bytes does: a wrong share, scheme or \
+             party, prefixes for another number of readers, or shares of the earlier form"
+        ),
     ];
     (1..).zip(reasons)
 }

@@ -9,11 +9,11 @@ sharing splits a message into shares and opens it again from the beginnings of a
 
   sharing scheme [S]
       says what a scheme costs
-  sharing split [--scheme S] MESSAGE KEYS FOLDER
+  sharing split [--scheme S] [--unpadded] MESSAGE KEYS FOLDER
       writes one share a party
-  sharing prefix [--scheme S] --length L --readers D SHARE OUT
+  sharing prefix [--scheme S] [--length L] --readers D SHARE OUT
       cuts out of a share what its party sends when D parties are read from
-  sharing reconstruct [--scheme S] --length L OUT PARTY=FILE PARTY=FILE ..
+  sharing reconstruct [--scheme S] [--length L] OUT PARTY=FILE PARTY=FILE ..
       opens the message from what the parties sent
 
   sharing COMMAND --help, or -h, says more.
@@ -28,7 +28,10 @@ pub fn all() -> String {
 A scheme has N parties. R of them may be absent, and Z may put their shares together and still learn
 nothing but the message's length in blocks. The counts are the numbers of parties at which opening is
 cheap, falling, the last one N - R. S is all of it in a row: N,R,Z and the counts. Without a scheme
-it is {default}. The value of an option may also stand behind =, as in --length=33.
+it is {default}. The value of an option may also stand behind =, as in --readers=4.
+
+A message is padded before it is split, so that it knows its own end. Shares of the earlier form do not
+know it: split --unpadded writes them, and prefix and reconstruct are told the message's length, L.
 
 This program never draws keys. They come from a file that you name; draw them evenly at random, keep
 them as secret as the message, use each key file for one message only, and destroy it afterwards.
@@ -68,11 +71,15 @@ Spaces may stand for the commas, here and after --scheme.
 pub fn split() -> String {
     format!(
         "\
-sharing split [--scheme N,R,Z,D1,D2..] MESSAGE KEYS FOLDER
+sharing split [--scheme N,R,Z,D1,D2..] [--unpadded] MESSAGE KEYS FOLDER
 
 Splits the file MESSAGE, of at most {MAX_MESSAGE} bytes, into one share a party: FOLDER/share-1 and so on. The
-folder is made if it does not exist. Keep the message's length, which is printed: it is needed to open
-the message, and the shares do not hold it.
+folder is made if it does not exist. The message is padded, so that it knows its own end: a byte 128 follows
+it, and zeros up to the end of that byte's block. A message that fills its blocks takes one block more.
+
+With --unpadded the shares are of the earlier form: zeros alone, and only where the last block is not
+full. Keep the message's length then, which is printed: it is needed to open the message, and the shares
+do not hold it.
 
 This program never draws keys: the file KEYS has them. Its length must be Z bytes for each row of each
 block; where it is another, the length that is needed is said. Draw the keys evenly at random, keep them
@@ -84,24 +91,34 @@ messages under the same keys a single party learns something of how they differ.
 
 pub fn prefix() -> String {
     "\
-sharing prefix [--scheme N,R,Z,D1,D2..] --length L --readers D SHARE OUT
+sharing prefix [--scheme N,R,Z,D1,D2..] [--length L] --readers D SHARE OUT
 
 Writes into OUT what a party sends when D parties are read from: the beginning of its whole share, the
-file SHARE. L is the length of the message, and D is one of the scheme's counts.
+file SHARE. D is one of the scheme's counts.
+
+--length L is for shares of the earlier form, which split --unpadded writes: L is the length of the
+message, and the share must have the length that goes with it.
 "
     .to_string()
 }
 
 pub fn reconstruct() -> String {
     "\
-sharing reconstruct [--scheme N,R,Z,D1,D2..] --length L OUT PARTY=FILE PARTY=FILE ..
+sharing reconstruct [--scheme N,R,Z,D1,D2..] [--length L] OUT PARTY=FILE PARTY=FILE ..
 
-Opens a message of L bytes and writes it into OUT. Each FILE is the prefix that the party of this number
-sent, cut for as many readers as there are parties here; their number is one of the scheme's counts. The
-parties may stand in any order: they are sorted.
+Opens a message and writes it into OUT, without its padding. Each FILE is the prefix that the party of
+this number sent, cut for as many readers as there are parties here; their number is one of the scheme's
+counts. A whole share is the prefix for the last count, and for no other. The parties may stand in any
+order: they are sorted.
 
-Prefixes of the right length always open. Whether a party sent false bytes, or L or the scheme is not
-the one that the message was split with, cannot be seen here: the message is then another.
+--length L is for shares of the earlier form, which split --unpadded writes: the message has L bytes.
+
+Whether the message is the right one cannot be seen here. A false byte, a wrong party, a prefix that was
+cut for another number of readers or a scheme that is not the message's is noticed only if the last block
+then does not end as padding does: false bytes in other blocks always pass, and a false last block may.
+So may a message of the earlier form that is opened without --length: where it ends in a byte 128, or in
+128 and zeros, what stands before that byte is taken for the whole message.
+With --length nothing is noticed, a wrong L included, as long as the lengths fit.
 "
     .to_string()
 }

@@ -75,24 +75,22 @@ impl fmt::Display for Scheme {
 /// The lengths are those of a message that is not refused for its own length; a number that anyone
 /// might type could be too large to multiply.
 impl Block {
-    fn blocks(&self, message: usize) -> usize {
+    /// The blocks of a message in the earlier form, where the last one is padded if it is not full.
+    pub fn blocks(&self, message: usize) -> usize {
         message.div_ceil(self.bytes)
     }
 
-    pub fn keys(&self, message: usize) -> usize {
-        self.blocks(message) * self.z * self.rows
+    /// The blocks of a padded message, which knows its own end.
+    pub fn padded_blocks(&self, message: usize) -> usize {
+        message / self.bytes + 1
     }
 
-    pub fn share(&self, message: usize) -> usize {
-        self.blocks(message) * self.rows
+    pub fn keys(&self, blocks: usize) -> usize {
+        blocks * self.z * self.rows
     }
 
     /// The bytes of one block in a prefix when d parties are read from, d one of the counts.
     pub fn prefix_of_block(&self, d: usize) -> usize {
         self.bytes / (d - self.z)
-    }
-
-    pub fn prefix(&self, message: usize, d: usize) -> usize {
-        self.blocks(message) * self.prefix_of_block(d)
     }
 }

@@ -1,0 +1,68 @@
+//! The two forms of message, as `prefix` and `reconstruct` are told them, and the lengths that files have in them.
+
+use crate::arguments::Arguments;
+use crate::failure::Failure;
+use crate::files::Input;
+use crate::report::counted;
+use crate::scheme::Block;
+use gilunavoi::limits::MAX_MESSAGE;
+
+#[derive(Clone, Copy)]
+pub enum Form {
+    /// The message knows its own end.
+    Padded,
+    /// The earlier form: the message's length is told.
+    Told(usize),
+}
+
+impl Form {
+    pub fn of(arguments: &Arguments) -> Result<Form, Failure> {
+        Ok(arguments.number_if_given("--length")?.map_or(Form::Padded, Form::Told))
+    }
+
+    /// What helps who mixed up the two.
+    pub fn hint(self) -> &'static str {
+        match self {
+            Form::Padded => "shares of the earlier form, which split --unpadded writes, need --length",
+            Form::Told(_) => "--length is for shares of the earlier form, which split --unpadded writes",
+        }
+    }
+
+    /// What is not known of a message that was opened.
+    pub fn caution(self) -> &'static str {
+        match self {
+            Form::Padded => {
+                "Only its end could be checked: a wrong scheme, party, prefix, form or number of readers can go unnoticed."
+            }
+            Form::Told(_) => {
+                "Nothing can tell whether the scheme, the length, the parties and the prefixes were the right ones."
+            }
+        }
+    }
+
+    /// May a file that has so many bytes of each block be so long?
+    pub fn fits(self, block: &Block, of_a_block: usize, bytes: usize) -> bool {
+        match self {
+            Form::Padded => {
+                let blocks = bytes / of_a_block;
+                bytes == blocks * of_a_block && blocks > 0 && blocks <= block.padded_blocks(MAX_MESSAGE)
+            }
+            Form::Told(length) => bytes == block.blocks(length) * of_a_block,
+        }
+    }
+
+    /// The refusal of a file that may not be so long.
+    pub fn wrong_length(self, block: &Block, of_a_block: usize, what: &str, file: &Input) -> Failure {
+        let needed = match self {
+            Form::Padded => {
+                let most = block.padded_blocks(MAX_MESSAGE);
+                format!("{what} has {} for each of 1 to {most} blocks", counted(of_a_block, "byte"))
+            }
+            Form::Told(length) => {
+                let bytes = counted(block.blocks(length) * of_a_block, "byte");
+                format!("with --length {length} {what} has {bytes}")
+            }
+        };
+        Failure::Refused(9, format!("{needed}, and {file}\n{}", self.hint()))
+    }
+}

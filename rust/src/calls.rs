@@ -1,0 +1,56 @@
+//! Calls of the proved library with a call's scheme, or with the default one, in its form of message.
+
+use crate::cases::{Call, Form};
+use crate::library::{self, Answer, PaddedAnswer};
+
+pub fn split(call: &Call, message: &[u8], keys: &[u8], out: &mut [u8]) -> Answer {
+    let s = &call.scheme;
+    match call.form {
+        Form::Earlier => library::split(s.n, s.r, s.z, &s.counts, message, keys, out),
+        Form::Padded => library::split_padded(s.n, s.r, s.z, &s.counts, message, keys, out),
+    }
+}
+
+pub fn split_default(call: &Call, message: &[u8], keys: &[u8], out: &mut [u8]) -> Answer {
+    match call.form {
+        Form::Earlier => library::split_default(message, keys, out),
+        Form::Padded => library::split_padded_default(message, keys, out),
+    }
+}
+
+pub fn prefix(call: &Call, share: &[u8]) -> Answer {
+    let s = &call.scheme;
+    match call.form {
+        Form::Earlier => library::prefix(s.n, s.r, s.z, &s.counts, call.length, call.d, share),
+        Form::Padded => library::prefix_padded(s.n, s.r, s.z, &s.counts, call.d, share),
+    }
+}
+
+pub fn prefix_default(call: &Call, share: &[u8]) -> Answer {
+    match call.form {
+        Form::Earlier => library::prefix_default(call.length, call.d, share),
+        Form::Padded => library::prefix_padded_default(call.d, share),
+    }
+}
+
+/// The bytes used and the message's length, which in the earlier form is the one that was told.
+pub fn reconstruct(call: &Call, prefixes: &[u8], out: &mut [u8]) -> PaddedAnswer {
+    let (s, parties) = (&call.scheme, &call.parties[..]);
+    match call.form {
+        Form::Earlier => {
+            let used = library::reconstruct(s.n, s.r, s.z, &s.counts, call.length, parties, prefixes, out);
+            used.map(|used| (used, call.length as u64))
+        }
+        Form::Padded => library::reconstruct_padded(s.n, s.r, s.z, &s.counts, parties, prefixes, out),
+    }
+}
+
+pub fn reconstruct_default(call: &Call, prefixes: &[u8], out: &mut [u8]) -> PaddedAnswer {
+    match call.form {
+        Form::Earlier => {
+            let used = library::reconstruct_default(call.length, &call.parties, prefixes, out);
+            used.map(|used| (used, call.length as u64))
+        }
+        Form::Padded => library::reconstruct_padded_default(&call.parties, prefixes, out),
+    }
+}

@@ -1,0 +1,87 @@
+//! The calls of the C boundary, declared as `include/sharing.h` has them.
+
+use super::WEIGHTS;
+
+#[repr(C)]
+pub struct SharingScheme {
+    pub refusal: u64,
+    pub block: u64,
+    pub rows: u64,
+}
+
+#[repr(C)]
+pub struct SharingAnswer {
+    pub refusal: u64,
+    pub value: u64,
+}
+
+#[repr(C)]
+pub struct SharingPaddedAnswer {
+    pub refusal: u64,
+    pub used: u64,
+    pub length: u64,
+}
+
+#[repr(C)]
+pub struct SharingBasis {
+    pub refusal: u64,
+    pub weights: [u8; WEIGHTS],
+}
+
+#[rustfmt::skip]
+extern "C" {
+    pub fn gf256_add(a: u8, b: u8) -> u8;
+    pub fn gf256_mul(a: u8, b: u8) -> u8;
+    pub fn gf256_mul_by_shifting(a: u8, b: u8) -> u8;
+    pub fn gf256_inverse(a: u8) -> u8;
+    pub fn sharing_check(n: u8, r: u8, z: u8, counts: *const u8, length: usize) -> SharingScheme;
+    pub fn sharing_check_default() -> SharingScheme;
+    pub fn sharing_split(
+        n: u8, r: u8, z: u8, counts: *const u8, counts_length: usize,
+        message: *const u8, message_length: usize, keys: *const u8, keys_length: usize,
+        out: *mut u8, out_length: usize,
+    ) -> SharingAnswer;
+    pub fn sharing_split_default(
+        message: *const u8, message_length: usize, keys: *const u8, keys_length: usize,
+        out: *mut u8, out_length: usize,
+    ) -> SharingAnswer;
+    pub fn sharing_prefix(
+        n: u8, r: u8, z: u8, counts: *const u8, counts_length: usize,
+        message_length: usize, d: usize, share: *const u8, share_length: usize,
+    ) -> SharingAnswer;
+    pub fn sharing_basis(
+        n: u8, r: u8, z: u8, counts: *const u8, counts_length: usize, parties: *const u8, parties_length: usize,
+    ) -> SharingBasis;
+    pub fn sharing_basis_default(parties: *const u8, parties_length: usize) -> SharingBasis;
+    pub fn sharing_reconstruct(
+        n: u8, r: u8, z: u8, counts: *const u8, counts_length: usize, message_length: usize,
+        parties: *const u8, parties_length: usize, prefixes: *const u8, prefixes_length: usize,
+        out: *mut u8, out_length: usize,
+    ) -> SharingAnswer;
+    pub fn sharing_reconstruct_default(
+        message_length: usize, parties: *const u8, parties_length: usize,
+        prefixes: *const u8, prefixes_length: usize, out: *mut u8, out_length: usize,
+    ) -> SharingAnswer;
+    pub fn sharing_prefix_default(message_length: usize, d: usize, share: *const u8, share_length: usize) -> SharingAnswer;
+    pub fn sharing_split_padded(
+        n: u8, r: u8, z: u8, counts: *const u8, counts_length: usize,
+        message: *const u8, message_length: usize, keys: *const u8, keys_length: usize,
+        out: *mut u8, out_length: usize,
+    ) -> SharingAnswer;
+    pub fn sharing_split_padded_default(
+        message: *const u8, message_length: usize, keys: *const u8, keys_length: usize,
+        out: *mut u8, out_length: usize,
+    ) -> SharingAnswer;
+    pub fn sharing_prefix_padded(
+        n: u8, r: u8, z: u8, counts: *const u8, counts_length: usize, d: usize, share: *const u8, share_length: usize,
+    ) -> SharingAnswer;
+    pub fn sharing_prefix_padded_default(d: usize, share: *const u8, share_length: usize) -> SharingAnswer;
+    pub fn sharing_reconstruct_padded(
+        n: u8, r: u8, z: u8, counts: *const u8, counts_length: usize, parties: *const u8, parties_length: usize,
+        prefixes: *const u8, prefixes_length: usize, out: *mut u8, out_length: usize,
+    ) -> SharingPaddedAnswer;
+    pub fn sharing_reconstruct_padded_default(
+        parties: *const u8, parties_length: usize, prefixes: *const u8, prefixes_length: usize,
+        out: *mut u8, out_length: usize,
+    ) -> SharingPaddedAnswer;
+}
