@@ -2,6 +2,7 @@
 //! refuses bad input itself. `include/sharing.h` says of each call what it answers and refuses.
 
 use crate::limits::MAX_PARTIES;
+use std::fmt::Debug;
 
 /// The room for a basis: as many rows as there may be parties, and a row as many weights.
 pub const WEIGHTS: usize = ROW_OF_WEIGHTS * ROW_OF_WEIGHTS;
@@ -9,28 +10,27 @@ pub const ROW_OF_WEIGHTS: usize = MAX_PARTIES as usize;
 
 mod boundary;
 
+/// What an accepted call answers, or the number of its refusal, which comes alone: with `none` for an answer.
+fn unless_refused<T: PartialEq + Debug>(refusal: u64, answer: T, none: T) -> Result<T, u64> {
+    if refusal == 0 {
+        return Ok(answer);
+    }
+    assert_eq!(answer, none, "a refusal comes alone");
+    Err(refusal)
+}
+
 /// The block length m and the rows b of a block, or the number of the refusal.
 pub type Checked = Result<(u64, u64), u64>;
 
 fn checked(answer: boundary::SharingScheme) -> Checked {
-    if answer.refusal == 0 {
-        Ok((answer.block, answer.rows))
-    } else {
-        assert_eq!((answer.block, answer.rows), (0, 0), "a refusal comes alone");
-        Err(answer.refusal)
-    }
+    unless_refused(answer.refusal, (answer.block, answer.rows), (0, 0))
 }
 
 /// The value that a call answers, or the number of its refusal.
 pub type Answer = Result<u64, u64>;
 
 fn answer(answer: boundary::SharingAnswer) -> Answer {
-    if answer.refusal == 0 {
-        Ok(answer.value)
-    } else {
-        assert_eq!(answer.value, 0, "a refusal comes alone");
-        Err(answer.refusal)
-    }
+    unless_refused(answer.refusal, answer.value, 0)
 }
 
 /// What the opener of padded messages answers: the number of prefix bytes that it used and the length of the message,
@@ -38,12 +38,7 @@ fn answer(answer: boundary::SharingAnswer) -> Answer {
 pub type PaddedAnswer = Result<(u64, u64), u64>;
 
 fn padded_answer(answer: boundary::SharingPaddedAnswer) -> PaddedAnswer {
-    if answer.refusal == 0 {
-        Ok((answer.used, answer.length))
-    } else {
-        assert_eq!((answer.used, answer.length), (0, 0), "a refusal comes alone");
-        Err(answer.refusal)
-    }
+    unless_refused(answer.refusal, (answer.used, answer.length), (0, 0))
 }
 
 pub fn add(a: u8, b: u8) -> u8 {
@@ -70,9 +65,20 @@ pub fn check_default() -> Checked {
     checked(unsafe { boundary::sharing_check_default() })
 }
 
-pub fn split(n: u8, r: u8, z: u8, counts: &[u8], message: &[u8], keys: &[u8], out: &mut [u8]) -> Answer {
+/// Splits by the call of one of the two forms of message.
+#[allow(clippy::too_many_arguments)]
+fn split_by(
+    call: boundary::Split,
+    n: u8,
+    r: u8,
+    z: u8,
+    counts: &[u8],
+    message: &[u8],
+    keys: &[u8],
+    out: &mut [u8],
+) -> Answer {
     answer(unsafe {
-        boundary::sharing_split(
+        call(
             n,
             r,
             z,
@@ -88,17 +94,25 @@ pub fn split(n: u8, r: u8, z: u8, counts: &[u8], message: &[u8], keys: &[u8], ou
     })
 }
 
+pub fn split(n: u8, r: u8, z: u8, counts: &[u8], message: &[u8], keys: &[u8], out: &mut [u8]) -> Answer {
+    split_by(boundary::sharing_split, n, r, z, counts, message, keys, out)
+}
+
+pub fn split_padded(n: u8, r: u8, z: u8, counts: &[u8], message: &[u8], keys: &[u8], out: &mut [u8]) -> Answer {
+    split_by(boundary::sharing_split_padded, n, r, z, counts, message, keys, out)
+}
+
+/// The same in the default scheme.
+fn split_default_by(call: boundary::SplitDefault, message: &[u8], keys: &[u8], out: &mut [u8]) -> Answer {
+    answer(unsafe { call(message.as_ptr(), message.len(), keys.as_ptr(), keys.len(), out.as_mut_ptr(), out.len()) })
+}
+
 pub fn split_default(message: &[u8], keys: &[u8], out: &mut [u8]) -> Answer {
-    answer(unsafe {
-        boundary::sharing_split_default(
-            message.as_ptr(),
-            message.len(),
-            keys.as_ptr(),
-            keys.len(),
-            out.as_mut_ptr(),
-            out.len(),
-        )
-    })
+    split_default_by(boundary::sharing_split_default, message, keys, out)
+}
+
+pub fn split_padded_default(message: &[u8], keys: &[u8], out: &mut [u8]) -> Answer {
+    split_default_by(boundary::sharing_split_padded_default, message, keys, out)
 }
 
 pub fn prefix(n: u8, r: u8, z: u8, counts: &[u8], length: usize, d: usize, share: &[u8]) -> Answer {
@@ -115,16 +129,13 @@ pub fn prefix_default(length: usize, d: usize, share: &[u8]) -> Answer {
 pub type Basis = Result<[u8; WEIGHTS], u64>;
 
 fn basis_answer(answer: boundary::SharingBasis) -> Basis {
-    if answer.refusal == 0 {
-        Ok(answer.weights)
-    } else {
-        assert_eq!(answer.weights, [0; WEIGHTS], "a refusal comes alone");
-        Err(answer.refusal)
-    }
+    unless_refused(answer.refusal, answer.weights, [0; WEIGHTS])
 }
 
 pub fn basis(n: u8, r: u8, z: u8, counts: &[u8], parties: &[u8]) -> Basis {
-    basis_answer(unsafe { boundary::sharing_basis(n, r, z, counts.as_ptr(), counts.len(), parties.as_ptr(), parties.len()) })
+    basis_answer(unsafe {
+        boundary::sharing_basis(n, r, z, counts.as_ptr(), counts.len(), parties.as_ptr(), parties.len())
+    })
 }
 
 pub fn basis_default(parties: &[u8]) -> Basis {
@@ -168,37 +179,6 @@ pub fn reconstruct_default(length: usize, parties: &[u8], prefixes: &[u8], out: 
             parties.len(),
             prefixes.as_ptr(),
             prefixes.len(),
-            out.as_mut_ptr(),
-            out.len(),
-        )
-    })
-}
-
-pub fn split_padded(n: u8, r: u8, z: u8, counts: &[u8], message: &[u8], keys: &[u8], out: &mut [u8]) -> Answer {
-    answer(unsafe {
-        boundary::sharing_split_padded(
-            n,
-            r,
-            z,
-            counts.as_ptr(),
-            counts.len(),
-            message.as_ptr(),
-            message.len(),
-            keys.as_ptr(),
-            keys.len(),
-            out.as_mut_ptr(),
-            out.len(),
-        )
-    })
-}
-
-pub fn split_padded_default(message: &[u8], keys: &[u8], out: &mut [u8]) -> Answer {
-    answer(unsafe {
-        boundary::sharing_split_padded_default(
-            message.as_ptr(),
-            message.len(),
-            keys.as_ptr(),
-            keys.len(),
             out.as_mut_ptr(),
             out.len(),
         )

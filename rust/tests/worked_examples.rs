@@ -4,12 +4,22 @@
 use gilunavoi::{library, reference};
 
 /// Splits in the scheme n 3, r 1, z 1, counts 3 2.
-fn split(message: &[u8], keys: &[u8], shares: usize) -> Vec<u8> {
+fn split_as(padded: bool, message: &[u8], keys: &[u8], shares: usize) -> Vec<u8> {
+    let split = if padded { library::split_padded } else { library::split };
+    let expected = if padded { reference::split_padded } else { reference::split };
     let mut out = vec![0; shares];
-    let answer = library::split(3, 1, 1, &[3, 2], message, keys, &mut out);
+    let answer = split(3, 1, 1, &[3, 2], message, keys, &mut out);
     assert_eq!(answer, Ok(shares as u64 / 3));
-    assert_eq!(reference::split(3, 1, 1, &[3, 2], message, keys, shares), Ok(out.clone()));
+    assert_eq!(expected(3, 1, 1, &[3, 2], message, keys, shares), Ok(out.clone()));
     out
+}
+
+fn split(message: &[u8], keys: &[u8], shares: usize) -> Vec<u8> {
+    split_as(false, message, keys, shares)
+}
+
+fn split_padded(message: &[u8], keys: &[u8], shares: usize) -> Vec<u8> {
+    split_as(true, message, keys, shares)
 }
 
 /// Opens two bytes in the same scheme: the bytes used, and the message.
@@ -20,16 +30,7 @@ fn reconstruct(parties: &[u8], prefixes: &[u8]) -> (u64, Vec<u8>) {
     (used, out)
 }
 
-/// The same of padded messages.
-fn split_padded(message: &[u8], keys: &[u8], shares: usize) -> Vec<u8> {
-    let mut out = vec![0; shares];
-    let answer = library::split_padded(3, 1, 1, &[3, 2], message, keys, &mut out);
-    assert_eq!(answer, Ok(shares as u64 / 3));
-    assert_eq!(reference::split_padded(3, 1, 1, &[3, 2], message, keys, shares), Ok(out.clone()));
-    out
-}
-
-/// Opens blocks of two bytes: the bytes used, the length of the message, and the blocks.
+/// Opens padded blocks of two bytes: the bytes used, the length of the message, and the blocks.
 fn reconstruct_padded(parties: &[u8], prefixes: &[u8], blocks: usize) -> ((u64, u64), Vec<u8>) {
     let mut out = vec![0; 2 * blocks];
     let answer = library::reconstruct_padded(3, 1, 1, &[3, 2], parties, prefixes, &mut out).unwrap();

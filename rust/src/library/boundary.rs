@@ -28,6 +28,13 @@ pub struct SharingBasis {
     pub weights: [u8; WEIGHTS],
 }
 
+/// The splitter's call, with a scheme and by default: the same in both forms of message.
+#[rustfmt::skip]
+pub type Split = unsafe extern "C" fn(
+    u8, u8, u8, *const u8, usize, *const u8, usize, *const u8, usize, *mut u8, usize,
+) -> SharingAnswer;
+pub type SplitDefault = unsafe extern "C" fn(*const u8, usize, *const u8, usize, *mut u8, usize) -> SharingAnswer;
+
 #[rustfmt::skip]
 extern "C" {
     pub fn gf256_add(a: u8, b: u8) -> u8;
@@ -49,6 +56,7 @@ extern "C" {
         n: u8, r: u8, z: u8, counts: *const u8, counts_length: usize,
         message_length: usize, d: usize, share: *const u8, share_length: usize,
     ) -> SharingAnswer;
+    pub fn sharing_prefix_default(message_length: usize, d: usize, share: *const u8, share_length: usize) -> SharingAnswer;
     pub fn sharing_basis(
         n: u8, r: u8, z: u8, counts: *const u8, counts_length: usize, parties: *const u8, parties_length: usize,
     ) -> SharingBasis;
@@ -62,7 +70,6 @@ extern "C" {
         message_length: usize, parties: *const u8, parties_length: usize,
         prefixes: *const u8, prefixes_length: usize, out: *mut u8, out_length: usize,
     ) -> SharingAnswer;
-    pub fn sharing_prefix_default(message_length: usize, d: usize, share: *const u8, share_length: usize) -> SharingAnswer;
     pub fn sharing_split_padded(
         n: u8, r: u8, z: u8, counts: *const u8, counts_length: usize,
         message: *const u8, message_length: usize, keys: *const u8, keys_length: usize,
