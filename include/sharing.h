@@ -1,6 +1,9 @@
 /*
- * Secret sharing by staircase polynomials over bytes: the C boundary of the proved library.
- * Link with target/staticlib/libexports.a, which `rt staticlib exports` writes (x86-64).
+ * Secret sharing by staircase polynomials over bytes, and archives of shares: the C boundary of the
+ * proved libraries (x86-64). The calls whose names start with `archive_`, at the end, are in
+ * target/staticlib/libarchive_exports.a, which `rt staticlib archive_exports` writes, all others in
+ * target/staticlib/libexports.a, which `rt staticlib exports` writes. Neither needs the other, and a
+ * program may link both.
  *
  * A scheme is n parties, of which r may be absent and z may collude, and a falling list of counts:
  * the numbers of parties from which a message can be reconstructed. With d parties, d one of the
@@ -16,12 +19,12 @@
  * - In the earlier form, kept for shares from before there was the other, zeros follow it where the
  *   last block is not full: N = L / m (rounded up). L is not in the shares: the caller keeps it.
  *
- * Every call has a form whose name ends in `_default`, without the scheme's parameters, for the
- * scheme n 5, r 2, z 1, counts 5, 4, 3.
+ * Every call that takes a scheme has a form whose name ends in `_default`, without its parameters, for
+ * the scheme n 5, r 2, z 1, counts 5, 4, 3.
  *
  * Every call returns, whatever numbers, bytes and lengths it is given; no pointer may be NULL, not even
  * beside the length 0. `refusal` is 0 when it was accepted; otherwise it is the first of these numbers
- * that applies, every other field is 0, and nothing was written:
+ * that applies (archive_write alone looks at 10 last), every other field is 0, and nothing was written:
  *
  *    1  n is below 2 or above 16
  *    2  z is 0, or r + z is n or more
@@ -37,16 +40,24 @@
  *   11  the prefixes do not end as a padded message of at most 16,384 bytes does: in the last block the
  *       last byte other than 0 is not 128, or there is none, or it stands too late. A wrong share, scheme
  *       or party, prefixes for another number of parties, or shares of the earlier form
+ *   12  reading an archive: the file has less than 2 bytes, or its count is above 4,096, or its pairs are
+ *       cut short; writing one: there are more than 4,096 lengths
+ *   13  reading: an entry does not start where it has to, or has no bytes, or the last one does not end
+ *       the file; writing: an entry has no bytes, an offset or a length is above 65,535, or the lengths
+ *       do not add up to contents_length (no sum wraps around)
+ *   14  no entry of the archive has this number
  *
  * What the caller owes, since nothing here can check it: a pointer is not NULL; as many bytes as its
- * length says stand behind it, and no other thread changes them during the call; `out` does not overlap
- * what the call reads. Keys are to be drawn evenly at random, kept as secret as the message, and used
- * for one message only: the library draws none.
+ * length says stand behind it, or as many numbers behind `lengths`, and no other thread changes them
+ * during the call; `out` does not overlap what the call reads. Keys are to be drawn evenly at random,
+ * kept as secret as the message, and used for one message only: the library draws none.
  *
- * The library has four operations more in Rattle: the prefix as a part of the lent share, in either form
- * of message, which in C is the share's own pointer with the length that sharing_prefix or
+ * In Rattle there are four operations more on schemes: the prefix as a part of the lent share, in either
+ * form of message, which in C is the share's own pointer with the length that sharing_prefix or
  * sharing_prefix_padded answers; the size of a basis, whose refusal stands here beside the table, since
- * a struct holds both; and the text of a scheme's sheet, which the program scheme_sheet prints.
+ * a struct holds both; and the text of a scheme's sheet, which the program scheme_sheet prints. And there
+ * are two on archives, for which archive_entry stands here: the length of an entry, and the entry as a
+ * part of the lent file, which in C is the file's own pointer plus the offset.
  */
 #ifndef SHARING_H
 #define SHARING_H
@@ -203,6 +214,44 @@ uint8_t gf256_mul_by_shifting(uint8_t a, uint8_t b);
 
 /* The byte whose product with a is 1; 0 for 0. */
 uint8_t gf256_inverse(uint8_t a);
+
+/*
+ * Archives. An archive is one file that holds many shares, its entries. It starts with their count, a
+ * number of two bytes and at most 4,096; a pair follows for each entry, its offset and its length, of two
+ * bytes each; then come the entries, end to end. Numbers have their low byte first. Entries have at least
+ * one byte and are numbered from 0. Offsets are from the file's start: the first entry starts right after
+ * the pairs, each next one where the one before it ends, and the last one ends the file. An archive of no
+ * entries is its count alone. The file may be longer than 65,535 bytes, as long as every offset and every
+ * length fits into two.
+ *
+ * Where an entry stands: its offset and its length.
+ */
+typedef struct {
+    uint64_t refusal;
+    uint64_t offset;
+    uint64_t length;
+} archive_entry_answer;
+
+/*
+ * Writes an archive into `out`. The entries stand in `contents` end to end; their lengths, as many as
+ * there are entries, are any numbers. `value` is the length of the file, 2 + 4 x lengths_length +
+ * contents_length. Refusals 12, 13 and 10 (`out` has that length), in this order.
+ */
+sharing_answer archive_write(
+    const uint8_t *contents, size_t contents_length, const size_t *lengths, size_t lengths_length,
+    uint8_t *out, size_t out_length);
+
+/*
+ * `value` is how many entries an archive has. The whole file is checked: its count, every pair and its
+ * end. Refusals 12 and 13.
+ */
+sharing_answer archive_count(const uint8_t *file, size_t file_length);
+
+/*
+ * Where the entry of this number stands. The whole file is checked as by archive_count, whatever the
+ * number is. Refusals 12, 13 and 14.
+ */
+archive_entry_answer archive_entry(const uint8_t *file, size_t file_length, size_t number);
 
 #ifdef __cplusplus
 }

@@ -1,16 +1,24 @@
 use std::path::Path;
 use std::process::Command;
 
-// Links the static library that `rt staticlib exports` writes.
+// The proved libraries: `rt staticlib NAME` writes each.
+const LIBRARIES: [&str; 2] = ["exports", "archive_exports"];
+
 fn main() {
     let root = std::env::var("CARGO_MANIFEST_DIR").expect("cargo names the package's folder");
     let folder = format!("{root}/../target/staticlib");
     println!("cargo:rustc-link-search=native={folder}");
-    println!("cargo:rustc-link-lib=static=exports");
-    println!("cargo:rerun-if-changed={folder}/libexports.a");
-    // The compiler's own words for this would not say what to do.
-    if !Path::new(&folder).join("libexports.a").exists() {
-        eprintln!("the proved library is not built: run `rt staticlib exports` first");
+    let mut missing = false;
+    for name in LIBRARIES {
+        println!("cargo:rustc-link-lib=static={name}");
+        println!("cargo:rerun-if-changed={folder}/lib{name}.a");
+        // The compiler's own words for this would not say what to do.
+        if !Path::new(&folder).join(format!("lib{name}.a")).exists() {
+            eprintln!("a proved library is not built: run `rt staticlib {name}` first");
+            missing = true;
+        }
+    }
+    if missing {
         std::process::exit(1);
     }
     link_gfshare_to_benchmarks();

@@ -29,7 +29,7 @@ static const uint8_t four[] = {1, 2, 4, 5};
 
 static void sizes(void) {
     EXPECT(sizeof(sharing_scheme) == 24 && sizeof(sharing_answer) == 16 && sizeof(sharing_basis_answer) == 264);
-    EXPECT(sizeof(sharing_padded_answer) == 24);
+    EXPECT(sizeof(sharing_padded_answer) == 24 && sizeof(archive_entry_answer) == 24);
     EXPECT(sizeof ((sharing_basis_answer *)0)->weights == 256);
 }
 
@@ -159,6 +159,50 @@ static void padded_by_default(void) {
     EXPECT(p.refusal == 0 && p.used == 36 && p.length == 12 && memcmp(opened, text, 12) == 0 && opened[12] == 128);
 }
 
+/* Three entries of 1, 2 and 3 bytes: the file, worked out by hand, has 20. */
+static const uint8_t contents[] = {7, 8, 9, 10, 11, 12};
+static const size_t lengths[] = {1, 2, 3};
+static const uint8_t archive[] = {3, 0, 14, 0, 1, 0, 15, 0, 2, 0, 17, 0, 3, 0, 7, 8, 9, 10, 11, 12};
+
+static void archives(void) {
+    uint8_t file[20], none[2] = {7, 7};
+    sharing_answer a = archive_write(contents, 6, lengths, 3, file, 20);
+    EXPECT(a.refusal == 0 && a.value == 20 && memcmp(file, archive, 20) == 0);
+    a = archive_count(archive, 20);
+    EXPECT(a.refusal == 0 && a.value == 3);
+    archive_entry_answer e = archive_entry(archive, 20, 2);
+    EXPECT(e.refusal == 0 && e.offset == 17 && e.length == 3);
+    a = archive_write(contents, 0, lengths, 0, none, 2);
+    EXPECT(a.refusal == 0 && a.value == 2 && none[0] == 0 && none[1] == 0);
+    a = archive_count(none, 2);
+    EXPECT(a.refusal == 0 && a.value == 0);
+}
+
+/* Alone, and together with what is looked at later. */
+static void refused_archives(void) {
+    static size_t many[4097];
+    const struct { size_t contents, lengths, out, refusal; } writes[] = {
+        {6, 3, 19, 10}, {5, 3, 19, 13}, {6, 2, 20, 13}, {5, 4097, 3, 12},
+    };
+    const struct { size_t file, number, refusal; } reads[] = {
+        {20, 3, 14}, {19, 3, 13}, {19, 1, 13}, {13, 4, 12}, {1, 0, 12},
+    };
+    uint8_t out[20], before[20];
+    memset(before, 7, 20);
+    memcpy(out, before, 20);
+    memcpy(many, lengths, sizeof lengths);
+    for (int i = 0; i < 4; i++) {
+        sharing_answer a = archive_write(contents, writes[i].contents, many, writes[i].lengths, out, writes[i].out);
+        EXPECT(a.refusal == writes[i].refusal && a.value == 0 && memcmp(out, before, 20) == 0);
+    }
+    for (int i = 0; i < 5; i++) {
+        archive_entry_answer e = archive_entry(archive, reads[i].file, reads[i].number);
+        EXPECT(e.refusal == reads[i].refusal && e.offset == 0 && e.length == 0);
+        sharing_answer a = archive_count(archive, reads[i].file);
+        EXPECT(a.refusal == (reads[i].refusal == 14 ? 0 : reads[i].refusal) && a.value == (a.refusal == 0 ? 3 : 0));
+    }
+}
+
 int main(void) {
     sizes();
     arithmetic();
@@ -171,5 +215,7 @@ int main(void) {
     two_refusals();
     default_scheme();
     padded_by_default();
+    archives();
+    refused_archives();
     return failures != 0;
 }

@@ -1,5 +1,5 @@
 //! What splitting and reconstructing cost: the proved library in both forms of message, an obvious program with tables, and
-//! libgfshare where it is installed. All take turns in one process.
+//! libgfshare where it is installed; and what archives cost, beside copying. All take turns in one process.
 
 use gilunavoi::cases::{parties, Call, Form, Scheme, FORMS};
 use gilunavoi::limits::MAX_MESSAGE;
@@ -11,6 +11,8 @@ use std::hint::black_box;
 use std::rc::Rc;
 use tables::Tables;
 
+#[path = "speed/archive.rs"]
+mod archive;
 #[cfg(gfshare)]
 #[path = "speed/gfshare.rs"]
 mod gfshare;
@@ -172,9 +174,11 @@ fn main() {
         }
     }
     let mut series = growth::series(&mut random);
+    let mut archives = archive::tasks(&mut random);
     for _ in 0..TURNS {
         all.iter_mut().for_each(Task::turn);
         series.iter_mut().for_each(growth::Series::turn);
+        archives.iter_mut().for_each(archive::Tasks::turn);
     }
     print!("{LEGEND}");
     let columns = ["us: best", "median", "MB/s", "tables", "padded", "times", "gfshare"];
@@ -183,4 +187,5 @@ fn main() {
     all.iter().for_each(|task| println!("{}", task.line(&all)));
     println!("\nhow the cost grows, microseconds a call, best turns: split / reconstruct for the lowest count");
     series.iter().for_each(|series| println!("{}", series.line()));
+    print!("\n{}", archive::table(&archives));
 }

@@ -4,6 +4,8 @@ use crate::limits::*;
 use crate::random::Random;
 use crate::reference;
 
+pub mod archive;
+
 /// A scheme. One that `new` or `drawn` makes is accepted, with the block length m and the rows b of a block; they stay
 /// as they are when a test changes the rest.
 #[derive(Clone, Debug)]
@@ -192,4 +194,24 @@ impl Call {
         let of_party = |&party: &u8| &shares[(party as usize - 1) * self.share..][..prefix];
         self.parties.iter().flat_map(of_party).copied().collect()
     }
+}
+
+/// All choices of one, two or three of the faults, each with the number of the refusal that it leads to. Faults of the
+/// same number stand together, in the order in which the rules look for them. Those of a choice have different numbers
+/// and stand in the same order.
+pub fn choices<Change: Copy>(faults: &[(u64, Change)]) -> Vec<Vec<(u64, Change)>> {
+    let mut choices: Vec<Vec<(u64, Change)>> = faults.iter().map(|&fault| vec![fault]).collect();
+    let mut start = 0;
+    for _ in 0..2 {
+        let end = choices.len();
+        for shorter in start..end {
+            let last = choices[shorter][choices[shorter].len() - 1].0;
+            let from_last = faults.iter().skip_while(|fault| fault.0 != last);
+            for &fault in from_last.filter(|fault| fault.0 != last) {
+                choices.push([&choices[shorter][..], &[fault]].concat());
+            }
+        }
+        start = end;
+    }
+    choices
 }

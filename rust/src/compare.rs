@@ -6,6 +6,8 @@ use crate::random::Random;
 use crate::{calls, library, reference};
 use std::fmt::Debug;
 
+pub mod archive;
+
 /// On what the two agree: that the call is accepted, or its refusal.
 pub type Agreed = Result<(), u64>;
 
@@ -24,6 +26,12 @@ impl Lent {
         Lent { bytes: random.bytes(start + length), start }
     }
 
+    /// These bytes in place of drawn ones.
+    fn of(random: &mut Random, bytes: &[u8]) -> Lent {
+        let start = random.below(16);
+        Lent { bytes: [&random.bytes(start), bytes].concat(), start }
+    }
+
     fn bytes(&self) -> &[u8] {
         &self.bytes[self.start..]
     }
@@ -32,7 +40,7 @@ impl Lent {
 /// Lends a call its output between guard bytes. It has to answer and to write what is expected, or to refuse and to
 /// write nothing.
 fn written<Value: Copy + Debug + PartialEq>(
-    call: &Call,
+    call: &impl Debug,
     random: &mut Random,
     length: usize,
     expected: &Result<(Value, Vec<u8>), u64>,

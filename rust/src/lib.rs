@@ -1,5 +1,7 @@
-//! The proved library behind safe functions (`library`), and its limits (`limits`).
+//! The proved libraries behind safe functions, secret sharing (`library`) and archives of shares (`archive`), and their
+//! limits (`limits`).
 
+pub mod archive;
 pub mod library;
 pub mod limits;
 

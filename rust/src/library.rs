@@ -8,10 +8,10 @@ use std::fmt::Debug;
 pub const WEIGHTS: usize = ROW_OF_WEIGHTS * ROW_OF_WEIGHTS;
 pub const ROW_OF_WEIGHTS: usize = MAX_PARTIES as usize;
 
-mod boundary;
+pub(crate) mod boundary;
 
 /// What an accepted call answers, or the number of its refusal, which comes alone: with `none` for an answer.
-fn unless_refused<T: PartialEq + Debug>(refusal: u64, answer: T, none: T) -> Result<T, u64> {
+pub(crate) fn unless_refused<T: PartialEq + Debug>(refusal: u64, answer: T, none: T) -> Result<T, u64> {
     if refusal == 0 {
         return Ok(answer);
     }
@@ -29,7 +29,7 @@ fn checked(answer: boundary::SharingScheme) -> Checked {
 /// The value that a call answers, or the number of its refusal.
 pub type Answer = Result<u64, u64>;
 
-fn answer(answer: boundary::SharingAnswer) -> Answer {
+pub(crate) fn answer(answer: boundary::SharingAnswer) -> Answer {
     unless_refused(answer.refusal, answer.value, 0)
 }
 

@@ -1,5 +1,5 @@
-//! The proved library's limits and default scheme, for who wants to know them before a call. A test holds them to what
-//! the library refuses and accepts.
+//! The proved libraries' limits and the default scheme, for who wants to know them before a call. Tests hold them to
+//! what the libraries refuse and accept.
 
 /// The most parties.
 pub const MAX_PARTIES: u8 = 16;
@@ -15,3 +15,8 @@ pub const DEFAULT_N: u8 = 5;
 pub const DEFAULT_R: u8 = 2;
 pub const DEFAULT_Z: u8 = 1;
 pub const DEFAULT_COUNTS: [u8; 3] = [5, 4, 3];
+
+/// The most entries of an archive.
+pub const MAX_ENTRIES: usize = 4096;
+/// The greatest offset of an entry in its archive, and the greatest length, in bytes: both are kept in two bytes.
+pub const MAX_OFFSET_OR_LENGTH: usize = 65535;

@@ -6,6 +6,8 @@
 
 use std::sync::OnceLock;
 
+pub mod archive;
+
 /// The limits of the rules' document, apart from those that the library's users are told.
 const MOST_PARTIES: i32 = 16;
 const MOST_COUNTS: usize = 8;

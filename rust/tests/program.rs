@@ -1,103 +1,18 @@
 //! The program `sharing`, run as its users run it, in a folder of its own.
 
+use folder::Folder;
 use gilunavoi::library;
 use gilunavoi::limits::MAX_MESSAGE;
 use std::fs;
-use std::path::PathBuf;
-use std::process::{Command, Output, Stdio};
-use std::time::Instant;
+use std::process::Command;
 
-/// A folder that is removed at the end.
-struct Folder(PathBuf);
+mod folder;
 
 impl Folder {
-    fn new(test: &str) -> Folder {
-        let path = std::env::temp_dir().join(format!("sharing-{test}-{}", std::process::id()));
-        fs::create_dir(&path).expect("a new folder");
-        Folder(path)
-    }
-
-    /// The program with the words of a line. What it says is kept.
-    fn command(&self, line: &str) -> Command {
-        let mut command = Command::new(env!("CARGO_BIN_EXE_sharing"));
-        command.args(line.split(' ')).current_dir(&self.0).stdout(Stdio::piped()).stderr(Stdio::piped());
-        command
-    }
-
-    fn run(&self, line: &str) -> Output {
-        self.command(line).output().expect("the program runs")
-    }
-
-    /// What it says where it succeeds.
-    fn says(&self, line: &str) -> String {
-        let output = self.run(line);
-        assert_eq!(text(&output.stderr), "", "{line}");
-        assert_eq!(output.status.code(), Some(0), "{line}");
-        text(&output.stdout)
-    }
-
-    /// What it says where it fails, and that it leaves the folder as it was.
-    fn fails(&self, line: &str, status: i32) -> String {
-        let before = self.names();
-        let output = self.run(line);
-        assert_eq!(output.status.code(), Some(status), "{line}: {}", text(&output.stderr));
-        assert_eq!(text(&output.stdout), "", "{line}");
-        assert_eq!(self.names(), before, "{line}: nothing is left behind");
-        let said = text(&output.stderr);
-        assert!(said.starts_with("sharing: ") && !said.contains("panicked"), "{line}: {said}");
-        said
-    }
-
-    /// It is refused for the reason that the help has under this number.
-    fn refuses(&self, line: &str, number: u64, detail: &str) {
-        let said = self.fails(line, 1);
-        let reason =
-            said.lines().next().and_then(|first| first.strip_prefix(&format!("sharing: refused ({number}): ")));
-        let reason = reason.unwrap_or_else(|| panic!("{line}: {said}"));
-        assert!(self.says("--help").contains(&format!("\n{number:4}  {reason}\n")), "{line}: {said}");
-        assert!(said.contains(detail), "{line}: {said}");
-    }
-
-    fn write(&self, name: &str, length: usize) {
-        let bytes: Vec<u8> = (0..length).map(|place| (place * 37 + length) as u8).collect();
-        fs::write(self.0.join(name), bytes).expect("a written file");
-    }
-
-    fn bytes(&self, name: &str) -> Vec<u8> {
-        fs::read(self.0.join(name)).expect("a file")
-    }
-
     /// The five shares in a folder, party after party.
     fn shares(&self, folder: &str) -> Vec<u8> {
         (1..=5).flat_map(|party| self.bytes(&format!("{folder}/share-{party}"))).collect()
     }
-
-    /// All files, also those in folders within.
-    fn names(&self) -> Vec<PathBuf> {
-        let mut names = Vec::new();
-        let mut folders = vec![self.0.clone()];
-        while let Some(folder) = folders.pop() {
-            for entry in fs::read_dir(folder).expect("a folder") {
-                let path = entry.expect("an entry").path();
-                if path.is_dir() {
-                    folders.push(path.clone());
-                }
-                names.push(path);
-            }
-        }
-        names.sort();
-        names
-    }
-}
-
-impl Drop for Folder {
-    fn drop(&mut self) {
-        let _ = fs::remove_dir_all(&self.0);
-    }
-}
-
-fn text(bytes: &[u8]) -> String {
-    String::from_utf8(bytes.to_vec()).expect("text")
 }
 
 /// The words of a command line that ask for a form of message: of `split`, and of the other two.
@@ -481,15 +396,6 @@ fn runs_at_once_into_one_folder() {
     }
 }
 
-/// Runs a line of the shell, in which `$0` is the program, that ends in a failure.
-fn shell_fails(folder: &Folder, line: &str, reason: &str) {
-    let mut shell = Command::new("sh");
-    let shell = shell.args(["-c", line, env!("CARGO_BIN_EXE_sharing")]).current_dir(&folder.0);
-    let output = shell.output().expect("a shell");
-    assert_eq!(output.status.code(), Some(1), "{line}");
-    assert!(text(&output.stderr).contains(reason), "{line}: {}", text(&output.stderr));
-}
-
 #[test]
 fn a_failure_in_the_middle() {
     let folder = Folder::new("middle");
@@ -499,58 +405,31 @@ fn a_failure_in_the_middle() {
 
     // A share of 8,196 bytes does not fit into a file of at most 8 × 512 bytes.
     let limited = "trap '' XFSZ; ulimit -f 8; exec \"$0\" split message keys shares";
-    shell_fails(&folder, limited, "cannot write \"shares/share-1\": ");
+    folder.shell_fails(limited, "cannot write \"shares/share-1\": ");
     assert_eq!(folder.names(), left);
 
     // Nobody is told of the shares where standard output is full or closed, so they go again.
     for output in ["/dev/full", "&-"] {
         let line = format!("exec \"$0\" split message keys shares >{output}");
-        shell_fails(&folder, &line, "cannot write to standard output: ");
+        folder.shell_fails(&line, "cannot write to standard output: ");
         assert_eq!(folder.names(), left);
     }
-    shell_fails(&folder, "exec \"$0\" --help >&-", "cannot write to standard output: it is closed");
+    folder.shell_fails("exec \"$0\" --help >&-", "cannot write to standard output: it is closed");
 
     // The third of the names that the program writes under is taken: two files are written before it.
     let taken = "mkdir shares; : >shares/.share-3.$$.part; exec \"$0\" split message keys shares";
-    shell_fails(&folder, taken, "cannot write \"shares/share-3\": \"shares/.share-3.");
+    folder.shell_fails(taken, "cannot write \"shares/share-3\": \"shares/.share-3.");
     assert_eq!(folder.names().len(), left.len() + 2, "the folder and the file that stood in the way");
-}
-
-extern "C" {
-    fn kill(process: i32, signal: i32) -> i32;
 }
 
 /// Signals at all times of a run: it keeps all shares and says so, or none.
 #[test]
 fn interrupts() {
-    use std::os::unix::process::ExitStatusExt;
     let folder = Folder::new("interrupts");
     folder.write("message", MAX_MESSAGE);
     folder.write("keys", MAX_MESSAGE + 1);
-    let left = folder.names();
-    let command = || folder.command("split --scheme 16,14,1,2 message keys shares").spawn().expect("it runs");
-    let start = Instant::now();
-    command().wait_with_output().expect("it ends");
-    let whole_run = start.elapsed();
-    let (mut kept, mut cleared) = (0, 0);
-    for round in 0..24 {
-        fs::remove_dir_all(folder.0.join("shares")).ok();
-        let signal = [1, 2, 15][round as usize % 3];
-        let run = command();
-        std::thread::sleep(whole_run * round / 20);
-        assert_eq!(unsafe { kill(run.id() as i32, signal) }, 0);
-        let output = run.wait_with_output().expect("it ends");
-        if output.status.success() {
-            assert!(text(&output.stdout).contains("16 shares"));
-            assert_eq!(folder.names().len(), left.len() + 17, "the folder and the shares");
-            kept += 1;
-        } else {
-            assert_eq!((output.status.signal(), text(&output.stdout)), (Some(signal), String::new()));
-            assert_eq!(folder.names(), left);
-            cleared += text(&output.stderr).contains("interrupted, and nothing is kept") as usize;
-        }
-    }
-    println!("{kept} runs were too fast for the signal, {cleared} removed what they had written");
+    // The folder and the shares.
+    folder.interrupts("split --scheme 16,14,1,2 message keys shares", "shares", 17, "16 shares");
 }
 
 #[test]

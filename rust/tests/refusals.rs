@@ -1,7 +1,7 @@
 //! Refusals: each alone, and every two and three at once, for every call in both forms of message. The first in the order
 //! of the rules' table is the answer, and nothing is written.
 
-use gilunavoi::cases::{Call, Form, Scheme, BAD_COUNTS, FORMS};
+use gilunavoi::cases::{choices, Call, Form, Scheme, BAD_COUNTS, FORMS};
 use gilunavoi::compare::{self, Compare};
 use gilunavoi::limits::{MAX_MESSAGE, MAX_PARTIES};
 use gilunavoi::random::Random;
@@ -156,23 +156,6 @@ fn faults(of_the_call: &[&[Fault]]) -> Vec<(u64, Change)> {
     }
     assert!(faults.is_sorted_by_key(|&(number, _)| number));
     faults
-}
-
-/// All choices of one, two or three faults with different numbers, in the same order.
-fn choices(faults: &[(u64, Change)]) -> Vec<Vec<(u64, Change)>> {
-    let mut choices: Vec<Vec<(u64, Change)>> = faults.iter().map(|&fault| vec![fault]).collect();
-    let mut start = 0;
-    for _ in 0..2 {
-        let end = choices.len();
-        for shorter in start..end {
-            let last = choices[shorter][choices[shorter].len() - 1].0;
-            for &fault in faults.iter().filter(|fault| fault.0 > last) {
-                choices.push([&choices[shorter][..], &[fault]].concat());
-            }
-        }
-        start = end;
-    }
-    choices
 }
 
 /// Accepted calls: the default scheme with messages of some lengths, and drawn schemes.

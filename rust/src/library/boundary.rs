@@ -28,6 +28,13 @@ pub struct SharingBasis {
     pub weights: [u8; WEIGHTS],
 }
 
+#[repr(C)]
+pub struct ArchiveEntry {
+    pub refusal: u64,
+    pub offset: u64,
+    pub length: u64,
+}
+
 /// The splitter's call, with a scheme and by default: the same in both forms of message.
 #[rustfmt::skip]
 pub type Split = unsafe extern "C" fn(
@@ -91,4 +98,10 @@ extern "C" {
         parties: *const u8, parties_length: usize, prefixes: *const u8, prefixes_length: usize,
         out: *mut u8, out_length: usize,
     ) -> SharingPaddedAnswer;
+    pub fn archive_write(
+        contents: *const u8, contents_length: usize, lengths: *const usize, lengths_length: usize,
+        out: *mut u8, out_length: usize,
+    ) -> SharingAnswer;
+    pub fn archive_count(file: *const u8, file_length: usize) -> SharingAnswer;
+    pub fn archive_entry(file: *const u8, file_length: usize, number: usize) -> ArchiveEntry;
 }

@@ -80,14 +80,15 @@ impl Arguments {
     pub fn number(&self, name: &str) -> Result<usize, Failure> {
         self.number_if_given(name)?.map_or_else(|| usage(format!("{name} is missing")), Ok)
     }
+}
 
-    /// The words, if they are as many as the names.
-    pub fn paths<const COUNT: usize>(&self, names: [&str; COUNT]) -> Result<[PathBuf; COUNT], Failure> {
-        let paths: Vec<PathBuf> = self.words.iter().map(PathBuf::from).collect();
-        let verb = if paths.len() == 1 { "was" } else { "were" };
-        let given = counted(paths.len(), "word");
-        paths.try_into().or_else(|_| usage(format!("needed are {}, and {given} {verb} given", names.join(", "))))
-    }
+/// The words, if they are as many as the names.
+pub fn paths<const COUNT: usize>(words: &[OsString], names: [&str; COUNT]) -> Result<[PathBuf; COUNT], Failure> {
+    let paths: Vec<PathBuf> = words.iter().map(PathBuf::from).collect();
+    let needed = if COUNT == 1 { "is" } else { "are" };
+    let given = if paths.len() == 1 { "was" } else { "were" };
+    let words = counted(paths.len(), "word");
+    paths.try_into().or_else(|_| usage(format!("needed {needed} {}, and {words} {given} given", names.join(", "))))
 }
 
 fn is_digits(word: &OsStr) -> bool {
@@ -95,7 +96,7 @@ fn is_digits(word: &OsStr) -> bool {
 }
 
 /// A number up to the greatest, or why the word is none.
-fn number(word: &OsStr, greatest: usize) -> Result<usize, String> {
+pub fn number(word: &OsStr, greatest: usize) -> Result<usize, String> {
     if !is_digits(word) {
         return Err(format!("needed is a number, not {word:?}"));
     }

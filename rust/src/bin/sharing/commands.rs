@@ -1,18 +1,16 @@
-//! The four commands.
+//! The commands. Those on archives stand in `archive`.
 
-use crate::arguments::{file_before_parties, party_and_file, usage, Arguments};
-use crate::failure::Failure;
+use crate::archive;
+use crate::arguments::{file_before_parties, party_and_file, paths, usage, Arguments};
+use crate::failure::{Done, Failure};
 use crate::files::{read, Input, Output, Place};
 use crate::form::Form;
 use crate::help;
-use crate::interrupt;
 use crate::report::{counted, say};
 use crate::scheme::{Block, Scheme};
 use gilunavoi::library;
 use gilunavoi::limits::MAX_MESSAGE;
 use std::ffi::OsString;
-
-type Done = Result<(), Failure>;
 
 /// A command's name, its help, the options it knows and what it does.
 struct Command {
@@ -22,16 +20,17 @@ struct Command {
     run: fn(&Arguments) -> Done,
 }
 
-const COMMANDS: [Command; 4] = [
+const COMMANDS: [Command; 5] = [
     Command { name: "scheme", help: help::scheme, options: &[], run: scheme },
     Command { name: "split", help: help::split, options: &["--scheme", "--unpadded"], run: split },
     Command { name: "prefix", help: help::prefix, options: &["--scheme", "--length", "--readers"], run: prefix },
     Command { name: "reconstruct", help: help::reconstruct, options: &["--scheme", "--length"], run: reconstruct },
+    Command { name: "archive", help: help::archive, options: &[], run: archive::run },
 ];
 
 pub fn run(words: Vec<OsString>) -> Done {
     let Some((first, rest)) = words.split_first() else {
-        return usage("a command is missing: scheme, split, prefix or reconstruct".to_string());
+        return usage("a command is missing: scheme, split, prefix, reconstruct or archive".to_string());
     };
     let asks_for_help = |word: &OsString| word == "--help" || word == "-h";
     if asks_for_help(first) {
@@ -63,17 +62,8 @@ fn scheme(arguments: &Arguments) -> Done {
     say(&text)
 }
 
-/// Tells what was written. Where nobody can be told, it is not kept.
-fn finish(output: Output, text: String) -> Done {
-    // A signal that comes later is too late: the files are announced.
-    interrupt::check()?;
-    say(&text)?;
-    output.keep();
-    Ok(())
-}
-
 fn split(arguments: &Arguments) -> Done {
-    let [message, keys, folder] = arguments.paths(["MESSAGE", "KEYS", "FOLDER"])?;
+    let [message, keys, folder] = paths(&arguments.words, ["MESSAGE", "KEYS", "FOLDER"])?;
     let unpadded = arguments.flag("--unpadded");
     let scheme = Scheme::of(arguments)?;
     let block = scheme.check()?;
@@ -97,11 +87,11 @@ fn split(arguments: &Arguments) -> Done {
         told += &format!("Keep the message's length, {length}: it is needed to open the message, ");
         told += "and the shares do not hold it.\n";
     }
-    finish(output, told)
+    output.keep(&told)
 }
 
 fn prefix(arguments: &Arguments) -> Done {
-    let [share, out] = arguments.paths(["SHARE", "OUT"])?;
+    let [share, out] = paths(&arguments.words, ["SHARE", "OUT"])?;
     let place = Place::new(&out)?;
     let (form, d) = (Form::of(arguments)?, arguments.number("--readers")?);
     let scheme = Scheme::of(arguments)?;
@@ -120,7 +110,7 @@ fn prefix(arguments: &Arguments) -> Done {
     let prefix = &share.bytes[..bytes as usize];
     let output = Output::one_file(&place, prefix)?;
     let told = format!("The prefix, {} of {}, is in {out:?}.\n", counted(prefix.len(), "byte"), share.bytes.len());
-    finish(output, told)
+    output.keep(&told)
 }
 
 /// The parties and what they sent, in the order that the library wants: the parties rising.
@@ -206,5 +196,5 @@ fn reconstruct(arguments: &Arguments) -> Done {
     let (length, d, caution) = (counted(message.len(), "byte"), parties.len(), form.caution());
     let told =
         format!("The message, {length}, is in {out:?}; {used} bytes were fetched from {d} parties.\n{caution}\n");
-    finish(output, told)
+    output.keep(&told)
 }

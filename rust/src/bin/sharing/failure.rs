@@ -1,15 +1,17 @@
 //! Why a command did not succeed, and the words for it.
 
 use crate::interrupt;
-use gilunavoi::limits::{MAX_BLOCK, MAX_COUNTS, MAX_MESSAGE, MAX_PARTIES};
+use crate::report::note;
+use gilunavoi::limits::{MAX_BLOCK, MAX_COUNTS, MAX_ENTRIES, MAX_MESSAGE, MAX_OFFSET_OR_LENGTH, MAX_PARTIES};
 use std::fmt;
-use std::io::Write;
 use std::process::ExitCode;
+
+pub type Done = Result<(), Failure>;
 
 pub enum Failure {
     /// The command line cannot be understood.
     Usage(String),
-    /// The library refused: the number, and what was given or is needed.
+    /// A library refused: the number, and what was given or is needed.
     Refused(u64, String),
     /// A file could not be read or written.
     File(String),
@@ -34,6 +36,12 @@ pub fn refusals() -> impl Iterator<Item = (u64, String)> {
             "the prefixes do not end as a padded message of at most {MAX_MESSAGE} bytes does: a wrong share, scheme or \
              party, prefixes for another number of readers, or shares of the earlier form"
         ),
+        format!("an archive has more than {MAX_ENTRIES} entries, or its count or its pairs are cut short"),
+        format!(
+            "an entry of an archive has no bytes, does not follow the one before it, or has an offset or a length above \
+             {MAX_OFFSET_OR_LENGTH}, or the last one does not end the file"
+        ),
+        "the archive has no entry of this number".to_string(),
     ];
     (1..).zip(reasons)
 }
@@ -58,7 +66,7 @@ impl Failure {
     /// Says on standard error what failed, and gives the program's exit status. A signal ends the program here.
     pub fn tell(&self) -> ExitCode {
         // Where standard error cannot be written either, the exit status still tells.
-        let _ = writeln!(std::io::stderr(), "sharing: {self}");
+        note(&self.to_string());
         if let Failure::Interrupted(number) = self {
             interrupt::end(*number);
         }

@@ -1,9 +1,9 @@
 //! Reading files, and writing files that appear together or not at all.
 
 use crate::arguments::usage;
-use crate::failure::Failure;
+use crate::failure::{Done, Failure};
 use crate::interrupt;
-use crate::report::counted;
+use crate::report::{counted, say};
 use std::ffi::OsString;
 use std::fmt;
 use std::fs::{self, DirBuilder, File, OpenOptions};
@@ -12,7 +12,7 @@ use std::os::unix::ffi::OsStrExt;
 use std::os::unix::fs::{DirBuilderExt, OpenOptionsExt};
 use std::path::{Path, PathBuf};
 
-/// No message, key file or share that the library accepts is nearly as long. Reading stops one byte
+/// No message, key file, share or archive that a library accepts is nearly as long. Reading stops one byte
 /// after it, so that an endless file ends in a refusal too.
 const LONGEST: usize = 1 << 20;
 
@@ -65,7 +65,7 @@ impl Place {
     }
 }
 
-/// Files in one folder. What was made is removed again unless `keep` is reached. Only the owner may
+/// Files in one folder. What was made is removed again unless `keep` succeeds. Only the owner may
 /// read them: they are shares, or a message.
 pub struct Output {
     folder: PathBuf,
@@ -160,9 +160,14 @@ impl Output {
         fs::rename(part, path).map_err(|error| failed("write", path, &error))
     }
 
-    pub fn keep(mut self) {
+    /// Tells what was written, and keeps it. Where nobody can be told, it is not kept.
+    pub fn keep(mut self, told: &str) -> Done {
+        // A signal that comes later is too late: the files are announced.
+        interrupt::check()?;
+        say(told)?;
         self.made.clear();
         self.new_folder = false;
+        Ok(())
     }
 }
 

@@ -2,7 +2,7 @@
 
 use crate::failure::refusals;
 use crate::scheme::Scheme;
-use gilunavoi::limits::{MAX_MESSAGE, MAX_PARTIES};
+use gilunavoi::limits::{MAX_ENTRIES, MAX_MESSAGE, MAX_OFFSET_OR_LENGTH, MAX_PARTIES};
 
 const COMMANDS: &str = "\
 sharing splits a message into shares and opens it again from the beginnings of a few of them.
@@ -15,6 +15,10 @@ sharing splits a message into shares and opens it again from the beginnings of a
       cuts out of a share what its party sends when D parties are read from
   sharing reconstruct [--scheme S] [--length L] OUT PARTY=FILE PARTY=FILE ..
       opens the message from what the parties sent
+  sharing archive write FILE [SHARE ..]
+  sharing archive list FILE
+  sharing archive entry FILE NUMBER OUT
+      keeps many shares in one file, says what is in it, and copies one out of it
 
   sharing COMMAND --help, or -h, says more.
 ";
@@ -121,4 +125,30 @@ So may a message of the earlier form that is opened without --length: where it e
 With --length nothing is noticed, a wrong L included, as long as the lengths fit.
 "
     .to_string()
+}
+
+pub fn archive() -> String {
+    format!(
+        "\
+sharing archive write FILE [SHARE ..]
+sharing archive list FILE
+sharing archive entry FILE NUMBER OUT
+
+An archive is one file that holds many shares, its entries.
+
+write   makes the archive FILE of the files SHARE, at most {MAX_ENTRIES} of them, of 1 to {MAX_OFFSET_OR_LENGTH} bytes each. The last
+        one has to start at most {MAX_OFFSET_OR_LENGTH} bytes after the file's start: before it stand all others, 4 bytes
+        for each, itself included, and 2 bytes more. The entries are numbered from 0, in the order in which
+        they are given; their names are not kept. Without any SHARE the archive has no entries.
+list    prints a line for each entry: its number, its length and its offset from the file's start. Of an
+        archive without entries it prints nothing, and says so on standard error.
+entry   writes the entry of this NUMBER into OUT.
+
+Before anything is read out of an archive, the whole of it is checked: its entries stand end to end, up to the
+end of the file. What is in them is not looked at: any files may be put in, and come out as they were.
+
+An archive is for the shares that one party keeps. Who reads it has all of them, so shares of one message that
+belong to different parties must not stand in the same one.
+"
+    )
 }

@@ -1,7 +1,8 @@
-//! The program `sharing`: splits a file into shares, cuts prefixes and opens the file again. All that
-//! is secret sharing is done by the proved library; this program reads files, names refusals in words
-//! and writes files.
+//! The program `sharing`: splits a file into shares, cuts prefixes and opens the file again, and keeps
+//! many shares in one archive. All that is secret sharing, and what an archive is, is left to the proved
+//! libraries; this program reads files, names refusals in words and writes files.
 
+mod archive;
 mod arguments;
 mod commands;
 mod failure;

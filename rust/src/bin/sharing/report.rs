@@ -1,4 +1,4 @@
-//! What is said on standard output, and how numbers are said.
+//! What is said where all goes well, and how numbers are said.
 
 use crate::failure::Failure;
 use std::io::Write;
@@ -32,8 +32,16 @@ pub fn say(text: &str) -> Result<(), Failure> {
     said.map_err(|reason| Failure::File(format!("cannot write to standard output: {reason}")))
 }
 
+/// What is worth knowing where standard output is for other programs to read: on standard error, as far as that goes.
+pub fn note(text: &str) {
+    let _ = writeln!(std::io::stderr(), "sharing: {text}");
+}
+
 /// A number and what it counts.
 pub fn counted(number: usize, thing: &str) -> String {
-    let ending = if number == 1 { "" } else { "s" };
-    format!("{number} {thing}{ending}")
+    match thing.strip_suffix('y') {
+        _ if number == 1 => format!("1 {thing}"),
+        Some(stem) => format!("{number} {stem}ies"),
+        None => format!("{number} {thing}s"),
+    }
 }
