@@ -67,7 +67,7 @@ count-spec =
     (λ c κs. omega (arith, within c))
     (λ c. search needs)
     (λ c. search needs)
-    (λ c κs. within (c .before))
+    (λ c κs. omega (arith, within (c .before)))
     (λ c.
     let turn = c .before .before .before in
     let e = turn .before .before in

@@ -1,8 +1,10 @@
 -- `archive::reading::entry` meets its contract: the part from the offset on, of the length that was found, and nothing on a refusal.
 -- Assumes nothing.
+use mathlib.Core.Path.{sym}
 use Prim.Native.Nat.{_+_, _≤_}
 use native.Mathlib.Omega.{arith}
 use lib.ListN.{length}
+use lib.Seq.{length-take-le}
 use borrow.Author.Needs.{needs}
 use Rattle.archive.proofs.Lookup.{no-part, at-start, part-within, part-told, start-told}
 use Rattle.archive.proofs.reading.entry.Statement.{statement}
@@ -21,7 +23,7 @@ entry-spec =
     (λ c κs. search needs)
     (λ c. search needs)
     (λ c. search needs)
-    (λ c. search needs)
+    (λ c. sym (length-take-le _ (c .before .before .before .before .before .args .file .now) (search needs)))
     (λ c.
     let call = c .before .before .before in
     let e = call .entry-place .ensures in
