@@ -17,9 +17,10 @@
 //! Here the complaints are counted, and the exit status is 0 if each opening had one or two: is there an end, and is it
 //! too late? A branch on the bytes themselves would bring more, the longer the block the more of them.
 
+use gilunavoi::cases::archive::WriteCall;
 use gilunavoi::cases::{length, parties, Call, Form, Scheme, FORMS};
 use gilunavoi::random::Random;
-use gilunavoi::{calls, library};
+use gilunavoi::{archive, calls, library};
 use std::arch::asm;
 
 const MAKE_UNDEFINED: u64 = 0x4d43_0001;
@@ -95,6 +96,21 @@ fn calls_of(form: Form, random: &mut Random, mut to: impl FnMut(&Call, &mut Rand
     }
 }
 
+/// Writes an archive of secret shares and takes them out again. Their lengths are for all to see.
+fn write_and_look_up(count: usize, random: &mut Random) {
+    let call = WriteCall::drawn(random, count);
+    let mut file = vec![0; call.out()];
+    request(MAKE_UNDEFINED, &call.contents);
+    assert_eq!(archive::write(&call.contents, &call.lengths, &mut file), Ok(file.len() as u64));
+    assert_eq!(archive::count(&file), Ok(count as u64));
+    let entries: Vec<&[u8]> = (0..count).map(|number| archive::entry(&file, number).expect("an entry")).collect();
+    let entries = entries.concat();
+    for secret in [&call.contents, &file, &entries] {
+        request(MAKE_DEFINED, secret);
+    }
+    assert!(entries == call.contents);
+}
+
 /// With all bytes secret, the padded opener's decision is complained about, once or twice a call.
 fn count_decisions(random: &mut Random) {
     let (mut openings, mut all) = (0, 0);
@@ -120,6 +136,8 @@ fn main() {
         });
     }
     println!("200 messages in both forms, split and opened for every count");
+    (0..100).for_each(|count| write_and_look_up(count, &mut random));
+    println!("archives of up to 99 shares, written and taken apart");
     if argument == "control" {
         let secret = random.bytes(1);
         request(MAKE_UNDEFINED, &secret);

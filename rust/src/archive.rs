@@ -3,9 +3,10 @@
 
 use crate::library::{answer, boundary, unless_refused, Answer};
 
-/// The length of the archive of so many entries, of so many bytes together: the room that `write` needs.
+/// The length of the archive of so many entries, of so many bytes together: the room that `write` needs. Numbers for which
+/// there is no archive give some length all the same.
 pub fn file_length(entries: usize, contents: usize) -> usize {
-    2 + 4 * entries + contents
+    entries.saturating_mul(4).saturating_add(2).saturating_add(contents)
 }
 
 /// Writes the entries, which stand in `contents` end to end, and answers the length of the file.

@@ -19,7 +19,7 @@ pub mod random;
 #[doc(hidden)]
 pub mod reference;
 
-/// The README's example is compiled and run with the tests.
+/// The README's examples are compiled and run with the tests.
 #[cfg(doctest)]
 #[doc = include_str!("../../README.md")]
 struct Readme;

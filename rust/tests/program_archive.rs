@@ -99,7 +99,8 @@ fn refusals_of_write() {
     folder.refuses("archive write box a empty a", 13, "\n\"empty\" has 0 bytes\n");
     folder.refuses("archive write box a a long empty", 13, "\n\"long\" has 65536 bytes\n");
     folder.refuses("archive write box endless", 13, "\n\"endless\" has more than 1048576 bytes\n");
-    let late = "\n\"a\" has 1 byte and would start at 65540; there is room for 2 shares before it\n";
+    let late =
+        "\n\"a\" has 1 byte and, even as the last one, would start at 65540; there is room for 2 shares before it\n";
     folder.refuses("archive write box fits a a empty", 13, late);
     // Too many are too many, whatever they are, and none of them is read.
     for name in ["a", "empty", "absent"] {
@@ -228,7 +229,7 @@ fn help_and_usage() {
     for (line, words) in [
         ("archive", "after archive one of write, list and entry is missing"),
         ("archive extract box", "archive has no command \"extract\": there are write, list and entry"),
-        ("archive write", "needed are FILE and the shares"),
+        ("archive write", "needed is FILE, and then the shares"),
         ("archive write box/ a", "\"box/\" is not the name of a file"),
         ("archive write --scheme 5,2,1,5 box a", "there is no option \"--scheme\" here"),
         ("archive list", "needed is FILE, and 0 words were given"),

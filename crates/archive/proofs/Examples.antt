@@ -48,6 +48,9 @@ pub reading :
     × (fileRefusal (0 ∷ []) ≡ 12)
     × (fileRefusal (255 ∷ 255 ∷ []) ≡ 12)
     × (fileRefusal (1 ∷ 0 ∷ 6 ∷ 0 ∷ 1 ∷ []) ≡ 12)
+    -- a count of 4,096, whose pairs are all there and wrong, and one of 4,097
+    × (fileRefusal (0 ∷ 16 ∷ replicate 16384 0) ≡ 13)
+    × (fileRefusal (1 ∷ 16 ∷ replicate 16388 0) ≡ 12)
     -- a tail, and one after no entries; an end before the file's; a gap, an overlap, an entry of no byte
     × (fileRefusal (file ++ (0 ∷ [])) ≡ 13)
     × (fileRefusal (0 ∷ 0 ∷ 0 ∷ []) ≡ 13)
@@ -61,7 +64,7 @@ pub reading :
     × (entryRefusal (0 ∷ []) 1 ≡ 12)
     × (entryRefusal (0 ∷ 0 ∷ 0 ∷ []) 1 ≡ 13)
 unfolding numberAt startOf cutShort pairsKept rulesBroken firstOf answer fileRefusal countAnswer entryRefusal placeAnswer entryLengthAnswer entryOf entryStart
-reading = (refl, refl, refl, refl, refl, refl, refl, refl, refl, refl, refl, refl, refl, refl, refl, refl, refl, refl, refl, refl, refl, refl, refl)
+reading = (refl, refl, refl, refl, refl, refl, refl, refl, refl, refl, refl, refl, refl, refl, refl, refl, refl, refl, refl, refl, refl, refl, refl, refl, refl)
 
 pub writing :
     (writeAnswer 3 (1 ∷ 2 ∷ []) 13 ≡ accepted (13 ∷ []))
@@ -81,8 +84,11 @@ pub writing :
     -- sums that would be 0 if they wrapped
     × (writeRefusal 0 (2 ^ 63 ∷ 2 ^ 63 ∷ []) 10 ≡ 13)
     × (writeRefusal 0 (18446744073709551615 ∷ 1 ∷ []) 10 ≡ 13)
+    -- as many entries as there may be, and one more
+    × (writeAnswer 4096 (replicate 4096 1) 20482 ≡ accepted (20482 ∷ []))
+    × (writeRefusal 4097 (replicate 4097 1) 20487 ≡ 12)
     -- 12 before 13, 13 before 10
     × (writeRefusal 3 (replicate 4097 0) 0 ≡ 12)
     × (writeRefusal 3 (1 ∷ 1 ∷ []) 0 ≡ 13)
 unfolding flat twoBytes pairs archiveOf total cut lengthsFit wouldBreak firstOf answer writeRefusal writeAnswer writeOutput
-writing = (refl, refl, refl, refl, refl, refl, refl, refl, refl, refl, refl, refl, refl, refl, refl, refl)
+writing = (refl, refl, refl, refl, refl, refl, refl, refl, refl, refl, refl, refl, refl, refl, refl, refl, refl, refl)

@@ -9,7 +9,7 @@ use Rattle.lists.specs.Table.{flat}
 use Rattle.scheme.specs.Outcome.{answer}
 use Rattle.archive.specs.Format.{headBytes, startIn, Archive}
 use Rattle.archive.specs.Reading.{countOf, offsetOf, lengthOf, fileRefusal, countAnswer, placeAnswer, entryLengthAnswer, entryRefusal, entryOf}
-use Rattle.archive.specs.Archives.{Gives, SameEntries}
+use Rattle.archive.specs.Archives.{Gives}
 use Rattle.archive.proofs.Entries.{length-flat, length-before, entry-in-flat}
 use Rattle.archive.proofs.Laid.{laid, archive-laid, after-laid, count-laid, offset-laid, length-of-laid, laid-passes}
 use Rattle.archive.proofs.Passing.{passes, entry-found, entry-none}
@@ -71,12 +71,12 @@ module _ (file : List ℕ) (entries : List (List ℕ)) (archive : Archive entrie
         no-part = λ i h. rw (no-entry i h);
       }
 
--- two archives of which the reader hands back the same are archives of the same entries
+-- two archives with as many entries, of which the lookup hands back the same, are archives of the same entries
 pub same-entries : (file other : List ℕ) (entries others : List (List ℕ))
-    → Archive entries file → Archive others other → SameEntries file other → entries ≡ others
-same-entries file other entries others a b same =
-    let many = count-is file entries a in
-    let many′ = count-is other others b in
-    let long : length entries ≡ length others = cc (same .count) in
+    → Archive entries file → Archive others other
+    → countOf file ≡ countOf other → ((i : ℕ) → i < countOf file → entryOf file i ≡ entryOf other i)
+    → entries ≡ others
+same-entries file other entries others a b many same =
+    let long : length entries ≡ length others = sym (count-is file entries a) ∙ many ∙ count-is other others b in
     ext-getD [] entries others long
-    (λ i h. sym (entry-is file entries a i h) ∙ same .part i (rw many h) ∙ entry-is other others b i (rw long at h))
+    (λ i h. sym (entry-is file entries a i h) ∙ same i (rw (count-is file entries a) h) ∙ entry-is other others b i (rw long at h))

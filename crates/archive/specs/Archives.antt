@@ -1,4 +1,4 @@
--- What is proved of archives, over all files and all entries. The reader's test passes exactly the files that are archives; reading an archive gives
+-- What is proved of archives, over all files and all entries. The reader accepts exactly the files that are archives; reading an archive gives
 -- its entries, every one, and what the writer wrote is the archive of what it was lent; no second archive has the same entries. A call is what its
 -- contract says of its answer and of what it writes or hands back. proofs/Theorems.antt proves these.
 -- Assumes nothing.
@@ -13,14 +13,18 @@ use Rattle.scheme.specs.declared.Answer.{Answer}
 use Rattle.scheme.specs.declared.Answer.the-variants.{Value}
 use Rattle.scheme.specs.Outcome.{accepted, refused}
 use Rattle.archive.specs.Format.{Archivable, Archive, startIn, archiveOf}
-use Rattle.archive.specs.Reading.{countOf, fileRefusal, countAnswer, placeAnswer, entryLengthAnswer, entryOf}
+use Rattle.archive.specs.Reading.{countAnswer, placeAnswer, entryLengthAnswer, entryOf}
 use Rattle.archive.specs.Writing.{cut, WriteCall}
 
 -- ---- the reader's test
 
--- it passes exactly the files that are the archive of some entries
+-- `count` accepts this file, with so many entries
+abbrev pub Accepts : List ℕ → ℕ → Type 0
+Accepts file count = countAnswer file ≡ accepted (count ∷ [])
+
+-- it accepts exactly the files that are the archive of some entries
 abbrev pub TestExact : Type 0
-TestExact = (file : List ℕ) → Each Byte file → (fileRefusal file ≡ 0) ↔ ((entries : List (List ℕ)) × Archive entries file)
+TestExact = (file : List ℕ) → Each Byte file → ((count : ℕ) × Accepts file count) ↔ ((entries : List (List ℕ)) × Archive entries file)
 
 -- and those entries are the only ones that the file is the archive of
 abbrev pub OneReading : Type 0
@@ -34,7 +38,7 @@ ArchiveBytes = (entries : List (List ℕ)) → Archivable entries → Each (λ e
 
 -- the reader's calls on a file give these entries, and there is none beyond them
 pub record Gives (file : List ℕ) (entries : List (List ℕ)) : Type 0 where
-  pub count : countAnswer file ≡ accepted (length entries ∷ [])
+  pub count : Accepts file (length entries)
   pub part : (i : ℕ) → i < length entries → entryOf file i ≡ getD entries i []
   pub size : (i : ℕ) → i < length entries → entryLengthAnswer file i ≡ accepted (length (getD entries i []) ∷ [])
   pub place : (i : ℕ) → i < length entries → placeAnswer file i ≡ accepted (startIn entries i ∷ length (getD entries i []) ∷ [])
@@ -73,12 +77,9 @@ WritesAll =
 
 -- ---- no second archive
 
--- by the reader's calls two files have equally many entries, and each entry of the one is that of the other
-pub record SameEntries (file other : List ℕ) : Type 0 where
-  pub count : countOf file ≡ countOf other
-  pub part : (i : ℕ) → i < countOf file → entryOf file i ≡ entryOf other i
-
--- two files that pass and have the same entries are the same file
+-- two files that are accepted, with as many entries, and of which the lookup hands back the same entries, are the same file
 abbrev pub OnlyArchive : Type 0
 OnlyArchive =
-    (file other : List ℕ) → Each Byte file → Each Byte other → fileRefusal file ≡ 0 → fileRefusal other ≡ 0 → SameEntries file other → file ≡ other
+    (file other : List ℕ) (count : ℕ) → Each Byte file → Each Byte other → Accepts file count → Accepts other count
+    → ((i : ℕ) → i < count → entryOf file i ≡ entryOf other i)
+    → file ≡ other

@@ -4,19 +4,17 @@
 use mathlib.Core.Path.{_≡_}
 use mathlib.Core.List.{List, [], _∷_}
 use Prim.Native.Nat.{ℕ}
-use lib.ListN.{length, getD}
-use Rattle.scheme.specs.Outcome.{Outcome}
+use lib.ListN.{length}
 use Rattle.exports.specs.declared.SharingAnswer.{SharingAnswer}
 use Rattle.exports.specs.Fields.{answerFields, valueFields}
 use Rattle.archive.specs.Writing.{writeAnswer, writeOutput}
 use Rattle.archive_exports.specs.declared.ArchiveEntryAnswer.{ArchiveEntryAnswer}
+-- of an answer with two values, as the first library has it for its opener of padded messages
+pub use Rattle.exports.specs.Fields.{openedFields as placeFields}
 
 -- of a lookup: where the entry starts, and its length
 abbrev pub entryFields : ArchiveEntryAnswer → List ℕ
 entryFields a = a .refusal ∷ a .offset ∷ a .length ∷ []
-
-abbrev pub placeFields : Outcome → List ℕ
-placeFields o = o .number ∷ getD (o .values) 0 0 ∷ getD (o .values) 1 0 ∷ []
 
 -- the writer's call: the fields of its answer, and its output
 abbrev pub WriteFields : List ℕ → List ℕ → List ℕ → SharingAnswer → List ℕ → Type 0

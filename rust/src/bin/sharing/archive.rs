@@ -52,7 +52,7 @@ impl Entries {
                 number,
                 match share.bytes.len() {
                     1..=MAX_OFFSET_OR_LENGTH => {
-                        format!("{share} and would start at {offset}; there is room for {before} before it")
+                        format!("{share} and, even as the last one, would start at {offset}; there is room for {before} before it")
                     }
                     _ => share.to_string(),
                 },
@@ -64,7 +64,7 @@ impl Entries {
 
 fn write(words: &[OsString]) -> Done {
     let Some((out, shares)) = words.split_first() else {
-        return usage("needed are FILE and the shares".to_string());
+        return usage("needed is FILE, and then the shares".to_string());
     };
     let place = Place::new(out.as_ref())?;
     let Entries { contents, lengths } = Entries::read(shares)?;

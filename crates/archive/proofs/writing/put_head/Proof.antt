@@ -47,12 +47,12 @@ put-head-spec =
     (λ c. search needs)
     (λ c. search needs)
     (λ c. search needs)
-    (λ c κs. (omega (arith, room (c .before .before)), numbers (c .before .before) .1))
+    (λ c κs. (omega (arith, room (c .before .before)), omega (arith, numbers (c .before .before))))
     (λ c. search needs)
     (λ c. search needs)
     (λ c κs.
     let put = c .before .before .before in
-    (omega (arith, room (put .before .before .before), put .put-number2 .kept .0), numbers (put .before .before .before) .0))
+    (omega (arith, room (put .before .before .before), put .put-number2 .kept .0), omega (arith, numbers (put .before .before .before))))
     (λ c. omega (arith, numbers (c .before .before .before .before .before .before .before .before .before)))
     (λ c. search needs)
     (λ c. search needs)
