@@ -3,7 +3,7 @@
 use mathlib.Core.Path.{_≡_, sym, ap, _∙_}
 use mathlib.Core.Bool.{Bool, true, _&&_}
 use mathlib.Core.List.{List, [], _++_, append-assoc, append-nil}
-use Prim.Native.Nat.{ℕ, _+_, _*_, _≤_, _<_}
+use Prim.Native.Nat.{ℕ, _+_, _≤_, _<_}
 use native.Mathlib.Numerals.{add-one}
 use native.Mathlib.Omega.{arith}
 use lib.Dec.{ltb, leb}
@@ -43,25 +43,26 @@ module _ (sizes : List ℕ) where
   head-begun out counted fit = record { within = omega arith; fit = fit; is = rw counted }
 
   -- one pair more: out′ holds the offset after what `out` holds, and out″ the length after that
-  pub head-next : (offset i : ℕ) (out out′ out″ : List ℕ) → HeadTo sizes offset i out → i < length sizes
-      → take (2 + 4 * i + 2) out′ ≡ take (2 + 4 * i) out ++ twoBytes offset
-      → take (4 + 4 * i + 2) out″ ≡ take (4 + 4 * i) out′ ++ twoBytes (getD sizes i 0)
+  pub head-next : (offset i at : ℕ) (out out′ out″ : List ℕ) → HeadTo sizes offset i out → i < length sizes → at ≡ headBytes i
+      → take (at + 2) out′ ≡ take at out ++ twoBytes offset
+      → take (at + 2 + 2) out″ ≡ take (at + 2) out′ ++ twoBytes (getD sizes i 0)
       → HeadTo sizes (offset + getD sizes i 0) (i + 1) out″
-  head-next offset i out out′ out″ h more first second =
+  head-next offset i at out out′ out″ h more at-is first second =
       let size : ℕ = getD sizes i 0 in
       let rest : List ℕ = pairs (offset + size) (drop (i + 1) sizes) in
-      let here : 4 + 4 * i ≡ 2 + 4 * i + 2 = omega arith in
-      let next : headBytes (i + 1) ≡ 4 + 4 * i + 2 = omega arith in
-      let written : take (headBytes (i + 1)) out″ ≡ (take (2 + 4 * i) out ++ twoBytes offset) ++ twoBytes size =
-      ap (λ (n : ℕ). take n out″) next ∙ second ∙ ap (λ (l : List ℕ). l ++ twoBytes size) (ap (λ (n : ℕ). take n out′) here ∙ first)
+      let next : headBytes (i + 1) ≡ at + 2 + 2 = omega arith in
+      let written : take (headBytes (i + 1)) out″ ≡ (take (headBytes i) out ++ twoBytes offset) ++ twoBytes size =
+      ap (λ (n : ℕ). take n out″) next
+      ∙ second
+      ∙ ap (λ (l : List ℕ). l ++ twoBytes size) (first ∙ ap (λ (n : ℕ). take n out ++ twoBytes offset) at-is)
       in
       record {
         within = omega arith;
         fit = fits-here sizes i offset more (h .fit) .2;
         is = ap (λ (l : List ℕ). l ++ rest) written
-            ∙ append-assoc (take (2 + 4 * i) out ++ twoBytes offset) (twoBytes size) rest
-            ∙ append-assoc (take (2 + 4 * i) out) (twoBytes offset) (twoBytes size ++ rest)
-            ∙ ap (λ (l : List ℕ). take (2 + 4 * i) out ++ l) (sym (pairs-at sizes i offset more ∙ append-assoc (twoBytes offset) (twoBytes size) rest))
+            ∙ append-assoc (take (headBytes i) out ++ twoBytes offset) (twoBytes size) rest
+            ∙ append-assoc (take (headBytes i) out) (twoBytes offset) (twoBytes size ++ rest)
+            ∙ ap (λ (l : List ℕ). take (headBytes i) out ++ l) (sym (pairs-at sizes i offset more ∙ append-assoc (twoBytes offset) (twoBytes size) rest))
             ∙ h .is;
       }
 

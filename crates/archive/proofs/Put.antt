@@ -31,8 +31,8 @@ pub copied-next : (d : List ℕ) (at : ℕ) (s : List ℕ) (i : ℕ) (o : List �
 copied-next d at s i o is room more = rw (is, add-one) (paste-suc d at s i 0 room more)
 
 -- the contents after the head, up to the end
-pub after-head : (sizes contents out : List ℕ) → length out ≡ headBytes (length sizes) + length contents
+pub after-head : (sizes contents out : List ℕ) (at : ℕ) → at ≡ headBytes (length sizes) → length out ≡ headBytes (length sizes) + length contents
     → take (headBytes (length sizes)) out ≡ headOf sizes
-    → paste out (headBytes (length sizes)) contents (length contents) ≡ laid sizes contents
+    → paste out at contents (length contents) ≡ laid sizes contents
 unfolding laid
-after-head sizes contents out room is = rw (is, take-length contents, drop-of-length-le out (le-of-eq room), append-nil)
+after-head sizes contents out at at-is room is = rw (at-is, is, take-length contents, drop-of-length-le out (le-of-eq room), append-nil)

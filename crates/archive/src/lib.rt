@@ -3,6 +3,7 @@
 // low byte first; offsets count from the file's start. specs/Format.antt has its bytes, and specs/Archives.antt what is
 // proved of reading and writing them.
 mod numbers;
+mod pairs;
 mod reading;
 mod writing;
 

@@ -5,6 +5,8 @@ ghost use Rattle.scheme.specs.Outcome.{outcome};
 ghost use Rattle.archive.specs.Reading.{countAnswer, entryOutcome, placeAnswer, entryLengthAnswer, entryOf, entryStart, moved};
 use crate::MAX_ENTRIES;
 use crate::numbers::number_at;
+use crate::pairs::head_bytes;
+use crate::pairs::pair_at;
 use sharing::Answer;
 
 // The answer of a lookup: where in the file the entry stands, or the number of the first refusal that applies.
@@ -26,21 +28,20 @@ pub fn count(file: &[u8]) -> Answer
         return Answer::Refused(12);
     }
     // Where the next entry has to start.
-    let mut start = 2 + 4 * entries;
+    let mut start = head_bytes(entries);
     if file.len() < start {
         return Answer::Refused(12);
     }
     let mut i = 0;
     while i < entries {
-        let offset = number_at(file, 2 + 4 * i);
-        let length = number_at(file, 4 + 4 * i);
-        if offset != start {
+        let pair = pair_at(file, i);
+        if pair.offset != start {
             return Answer::Refused(13);
         }
-        if length == 0 {
+        if pair.length == 0 {
             return Answer::Refused(13);
         }
-        start = offset + length;
+        start = pair.offset + pair.length;
         i += 1;
     }
     if start != file.len() {
@@ -60,9 +61,11 @@ pub fn entry_place(file: &[u8], number: usize) -> EntryAnswer
             if entries <= number {
                 return EntryAnswer::Refused(14);
             }
-            let offset = number_at(file, 2 + 4 * number);
-            let length = number_at(file, 4 + 4 * number);
-            EntryAnswer::At { offset, length }
+            let pair = pair_at(file, number);
+            EntryAnswer::At {
+                offset: pair.offset,
+                length: pair.length,
+            }
         }
     }
 }

@@ -9,6 +9,7 @@ ghost use Rattle.archive.specs.Writing.{lengthsFit, wouldBreak, WriteCal
 use crate::MAX_ENTRIES;
 use crate::numbers::MAX_NUMBER;
 use crate::numbers::put_number;
+use crate::pairs::head_bytes;
 use sharing::Answer;
 
 // Writes the archive of the entries, which are lent end to end with their lengths, and answers its length. On a refusal
@@ -23,7 +24,7 @@ pub fn write(contents: &[u8], lengths: &[usize], out: &mut [u8]) -> Answer
     }
     // What a test asks is worked out before it, so that two of them stand in the table's order, side by side.
     let broken = would_break(contents.len(), lengths);
-    let head = 2 + 4 * lengths.len();
+    let head = head_bytes(lengths.len());
     let bytes = head + contents.len();
     if broken {
         return Answer::Refused(13);
@@ -42,7 +43,7 @@ fn would_break(contents: usize, lengths: &[usize]) -> bool
     requires { ⌜ length (now lengths) ≤ maxEntries ⌝ }
     ensures { λ broken. ⌜ broken ≡ wouldBreak contents (now (lengths .entry)) ⌝ }
 {
-    let head = 2 + 4 * lengths.len();
+    let head = head_bytes(lengths.len());
     let mut offset = head;
     let mut i = 0;
     while i < lengths.len() {
@@ -68,12 +69,13 @@ fn put_head(lengths: &[usize], out: &mut [u8])
     ensures { λ _. ⌜ take (headBytes (length (now (lengths .entry)))) (now (out .exit)) ≡ headOf (now (lengths .entry)) ⌝ }
 {
     put_number(out, 0, lengths.len());
-    let mut offset = 2 + 4 * lengths.len();
+    let mut offset = head_bytes(lengths.len());
     let mut i = 0;
     while i < lengths.len() {
         let size = lengths[i];
-        put_number(out, 2 + 4 * i, offset);
-        put_number(out, 4 + 4 * i, size);
+        let at = head_bytes(i);
+        put_number(out, at, offset);
+        put_number(out, at + 2, size);
         offset += size;
         i += 1;
     }
