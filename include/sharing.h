@@ -20,7 +20,13 @@
  *   last block is not full: N = L / m (rounded up). L is not in the shares: the caller keeps it.
  *
  * Every call that takes a scheme has a form whose name ends in `_default`, without its parameters, for
- * the scheme n 5, r 2, z 1, counts 5, 4, 3.
+ * the scheme n 5, r 2, z 2, counts 5, 4, 3.
+ *
+ * The default was another before: n 5, r 2, z 1, counts 5, 4, 3. Nothing in a share tells its scheme.
+ * Shares that were stored by the `_default` calls of that time are for the calls with a scheme, with
+ * 5, 2, 1 and these counts. The `_default` calls take them for shares of the new default: in either form
+ * and for many lengths of message they refuse nothing, and what comes out are other bytes, or pieces of
+ * the message. docs/former-default.md has the details.
  *
  * Every call returns, whatever numbers, bytes and lengths it is given; no pointer may be NULL, not even
  * beside the length 0. `refusal` is 0 when it was accepted; otherwise it is the first of these numbers
@@ -98,7 +104,7 @@ typedef struct {
 /* Checks a scheme and answers its block length and rows. Refusals 1 to 4. */
 sharing_scheme sharing_check(uint8_t n, uint8_t r, uint8_t z, const uint8_t *counts, size_t counts_length);
 
-/* The same of the default scheme, which is accepted: 12 and 6. */
+/* The same of the default scheme, which is accepted: 6 and 6. */
 sharing_scheme sharing_check_default(void);
 
 /*

@@ -49,7 +49,7 @@ static void schemes(void) {
     s = sharing_check(5, 1, 2, counts, 2);
     EXPECT(s.refusal == 0 && s.block == 6 && s.rows == 3);
     s = sharing_check_default();
-    EXPECT(s.refusal == 0 && s.block == 12 && s.rows == 6);
+    EXPECT(s.refusal == 0 && s.block == 6 && s.rows == 6);
 }
 
 static void splits(void) {
@@ -127,36 +127,68 @@ static void two_refusals(void) {
     EXPECT(p.refusal == 10 && p.used == 0 && p.length == 0 && memcmp(out, before, 14) == 0);
 }
 
+/* Twelve bytes in two blocks of 6, with 6 rows of 2 keys each. */
 static void default_scheme(void) {
-    const uint8_t text[] = "A few words", block_keys[] = {1, 2, 3, 4, 5, 6};
+    const uint8_t text[] = "A few words", block_keys[24] = {1, 2, 3, 4, 5, 6};
     const uint8_t three[] = {1, 2, 4}, equal[] = {1, 4, 4};
-    uint8_t out[30], prefixes[18], opened[12];
+    uint8_t out[60], prefixes[36], opened[12];
     EXPECT(sizeof text == 12);
-    sharing_answer a = sharing_split_default(text, 12, block_keys, 6, out, 30);
-    EXPECT(a.refusal == 0 && a.value == 6);
-    a = sharing_prefix_default(12, 5, out, 6);
-    EXPECT(a.refusal == 0 && a.value == 3);
-    memcpy(prefixes, out, 12);
-    memcpy(prefixes + 12, out + 18, 6);
-    a = sharing_reconstruct_default(12, three, 3, prefixes, 18, opened, 12);
-    EXPECT(a.refusal == 0 && a.value == 18 && memcmp(opened, text, 12) == 0);
+    sharing_answer a = sharing_split_default(text, 12, block_keys, 24, out, 60);
+    EXPECT(a.refusal == 0 && a.value == 12);
+    a = sharing_prefix_default(12, 5, out, 12);
+    EXPECT(a.refusal == 0 && a.value == 4);
+    memcpy(prefixes, out, 24);
+    memcpy(prefixes + 24, out + 36, 12);
+    a = sharing_reconstruct_default(12, three, 3, prefixes, 36, opened, 12);
+    EXPECT(a.refusal == 0 && a.value == 36 && memcmp(opened, text, 12) == 0);
     EXPECT(sharing_basis_default(three, 3).refusal == 0);
     sharing_basis_answer refused = sharing_basis_default(equal, 3);
     EXPECT(refused.refusal == 7 && refused.weights[0] == 0);
 }
 
-/* Twelve bytes fill a block, and make two blocks when they are padded. */
+/* Twelve bytes fill two blocks, and make three when they are padded. */
 static void padded_by_default(void) {
-    const uint8_t text[] = "A few words", two_blocks_keys[12] = {1, 2, 3}, three[] = {1, 2, 4};
-    uint8_t out[60], prefixes[36], opened[24];
-    sharing_answer a = sharing_split_padded_default(text, 12, two_blocks_keys, 12, out, 60);
-    EXPECT(a.refusal == 0 && a.value == 12);
-    a = sharing_prefix_padded_default(5, out, 12);
+    const uint8_t text[] = "A few words", three_blocks_keys[36] = {1, 2, 3}, three[] = {1, 2, 4};
+    uint8_t out[90], prefixes[54], opened[18];
+    sharing_answer a = sharing_split_padded_default(text, 12, three_blocks_keys, 36, out, 90);
+    EXPECT(a.refusal == 0 && a.value == 18);
+    a = sharing_prefix_padded_default(5, out, 18);
     EXPECT(a.refusal == 0 && a.value == 6);
-    memcpy(prefixes, out, 24);
-    memcpy(prefixes + 24, out + 36, 12);
-    sharing_padded_answer p = sharing_reconstruct_padded_default(three, 3, prefixes, 36, opened, 24);
-    EXPECT(p.refusal == 0 && p.used == 36 && p.length == 12 && memcmp(opened, text, 12) == 0 && opened[12] == 128);
+    memcpy(prefixes, out, 36);
+    memcpy(prefixes + 36, out + 54, 18);
+    sharing_padded_answer p = sharing_reconstruct_padded_default(three, 3, prefixes, 54, opened, 18);
+    EXPECT(p.refusal == 0 && p.used == 54 && p.length == 12 && memcmp(opened, text, 12) == 0 && opened[12] == 128);
+}
+
+/*
+ * The former default, n 5, r 2, z 1, counts 5, 4, 3, and what parties 1, 2 and 3 stored under it of the five bytes "Noon.",
+ * in the earlier form and padded. It is named to open them; the default scheme opens them too, to other bytes.
+ */
+static const uint8_t former_counts[] = {5, 4, 3}, three_parties[] = {1, 2, 3};
+
+static void stored_shares(void) {
+    const uint8_t stored[] = {9, 92, 187, 106, 34, 150, 253, 46, 187, 216, 147, 150, 164, 0, 187, 182, 252, 150};
+    uint8_t opened[5];
+    sharing_answer a = sharing_prefix(5, 2, 1, former_counts, 3, 5, 5, stored, 6);
+    EXPECT(a.refusal == 0 && a.value == 3);
+    a = sharing_prefix_default(5, 5, stored, 6);
+    EXPECT(a.refusal == 0 && a.value == 2);
+    a = sharing_reconstruct(5, 2, 1, former_counts, 3, 5, three_parties, 3, stored, 18, opened, 5);
+    EXPECT(a.refusal == 0 && a.value == 18 && memcmp(opened, "Noon.", 5) == 0);
+    a = sharing_reconstruct_default(5, three_parties, 3, stored, 18, opened, 5);
+    EXPECT(a.refusal == 0 && a.value == 18 && memcmp(opened, "~\0\0\0\0", 5) == 0);
+}
+
+static void stored_padded_shares(void) {
+    const uint8_t stored[] = {9, 220, 187, 106, 34, 150, 253, 24, 187, 216, 147, 150, 164, 182, 187, 182, 252, 150};
+    uint8_t opened[12];
+    sharing_answer a = sharing_prefix_padded(5, 2, 1, former_counts, 3, 5, stored, 6);
+    EXPECT(a.refusal == 0 && a.value == 3);
+    sharing_padded_answer p =
+        sharing_reconstruct_padded(5, 2, 1, former_counts, 3, three_parties, 3, stored, 18, opened, 12);
+    EXPECT(p.refusal == 0 && p.used == 18 && p.length == 5 && memcmp(opened, "Noon.", 5) == 0);
+    p = sharing_reconstruct_padded_default(three_parties, 3, stored, 18, opened, 6);
+    EXPECT(p.refusal == 0 && p.used == 18 && p.length == 3 && memcmp(opened, "~\0", 3) == 0);
 }
 
 /* Three entries of 1, 2 and 3 bytes: the file, worked out by hand, has 20. */
@@ -215,6 +247,8 @@ int main(void) {
     two_refusals();
     default_scheme();
     padded_by_default();
+    stored_shares();
+    stored_padded_shares();
     archives();
     refused_archives();
     return failures != 0;

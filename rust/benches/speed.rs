@@ -144,12 +144,16 @@ fn tasks_of_gfshare(_: &mut Random, _: usize) -> Vec<Task> {
     Vec::new()
 }
 
-/// The default scheme, two of 7 and 10 parties, one of 16, and one with the longest block, of 840 bytes.
-fn schemes() -> Vec<Scheme> {
+/// The default scheme and the former default, both compared with libgfshare.
+fn defaults() -> Vec<Scheme> {
+    vec![Scheme::default(), Scheme::former_default()]
+}
+
+/// Two of 7 and 10 parties, one of 16, and one with the longest block, of 840 bytes.
+fn others() -> Vec<Scheme> {
     let nine = (3..10).rev().collect();
     let others = [(7, 4, 1, vec![7, 4, 3]), (10, 4, 2, vec![10, 8, 6]), (16, 8, 2, vec![16, 9, 8]), (9, 6, 1, nine)];
-    let others = others.map(|(n, r, z, counts)| Scheme::new(n, r, z, counts).expect("an accepted scheme"));
-    [&[Scheme::default()], &others[..]].concat()
+    others.map(|(n, r, z, counts)| Scheme::new(n, r, z, counts).expect("an accepted scheme")).into()
 }
 
 const LEGEND: &str = "\
@@ -166,11 +170,14 @@ fn main() {
         let first = all.len();
         all.extend(tasks_of_gfshare(&mut random, length));
         let matched = (first < all.len()).then_some([first, first + 1]);
-        for scheme in schemes() {
-            // libgfshare: any 3 of 5 open, 2 learn nothing, a share is as long as the message. The default scheme is the
-            // likest: z 1, shares half as long. Its one opening, from 3, is compared with ours from 5, 4 and 3.
-            let matched = matched.filter(|_| scheme.is_default());
+        // libgfshare: any 3 of 5 open, 2 learn nothing, a share is as long as the message. So it is in the default scheme; in
+        // the former one 1 learns nothing and a share is half as long. Its one opening, from 3, is compared with ours from 5,
+        // 4 and 3.
+        for scheme in defaults() {
             all.extend(tasks(&mut random, &scheme, length, matched));
+        }
+        for scheme in others() {
+            all.extend(tasks(&mut random, &scheme, length, None));
         }
     }
     let mut series = growth::series(&mut random);

@@ -40,6 +40,12 @@ impl Scheme {
         }
     }
 
+    /// The scheme of shares that were stored under the former default.
+    pub fn former_default() -> Scheme {
+        let counts = FORMER_DEFAULT_COUNTS.to_vec();
+        Scheme::new(FORMER_DEFAULT_N, FORMER_DEFAULT_R, FORMER_DEFAULT_Z, counts).expect("an accepted scheme")
+    }
+
     pub fn is_default(&self) -> bool {
         (self.n, self.r, self.z, &self.counts[..]) == (DEFAULT_N, DEFAULT_R, DEFAULT_Z, &DEFAULT_COUNTS)
     }

@@ -13,8 +13,15 @@ pub const MAX_MESSAGE: usize = 16384;
 /// The scheme of the calls without one.
 pub const DEFAULT_N: u8 = 5;
 pub const DEFAULT_R: u8 = 2;
-pub const DEFAULT_Z: u8 = 1;
+pub const DEFAULT_Z: u8 = 2;
 pub const DEFAULT_COUNTS: [u8; 3] = [5, 4, 3];
+
+/// The former default, of which shares are stored. No call takes it by itself: who cuts a prefix of such a share, or opens
+/// them, names it, since nothing in a share tells its scheme.
+pub const FORMER_DEFAULT_N: u8 = 5;
+pub const FORMER_DEFAULT_R: u8 = 2;
+pub const FORMER_DEFAULT_Z: u8 = 1;
+pub const FORMER_DEFAULT_COUNTS: [u8; 3] = [5, 4, 3];
 
 /// The most entries of an archive.
 pub const MAX_ENTRIES: usize = 4096;

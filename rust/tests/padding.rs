@@ -7,11 +7,13 @@ use gilunavoi::library;
 use gilunavoi::limits::MAX_MESSAGE;
 use gilunavoi::random::Random;
 
-/// Blocks of 1, 2, 6, 12 and 24 bytes; one and two colluding parties; one count, neighbouring counts and gaps.
+/// Blocks of 1, 2, 6 and 24 bytes, of 6 in the default scheme and of 12 in the former; one and two colluding parties; one
+/// count, neighbouring counts and gaps.
 fn schemes() -> Vec<Scheme> {
-    let schemes: [(u8, u8, u8, &[u8]); 5] =
-        [(2, 0, 1, &[2]), (3, 1, 1, &[3, 2]), (7, 4, 1, &[7, 4, 3]), (5, 2, 1, &[5, 4, 3]), (10, 4, 2, &[10, 8, 6])];
-    schemes.map(|(n, r, z, counts)| Scheme::new(n, r, z, counts.to_vec()).unwrap()).into()
+    let schemes: [(u8, u8, u8, &[u8]); 4] =
+        [(2, 0, 1, &[2]), (3, 1, 1, &[3, 2]), (7, 4, 1, &[7, 4, 3]), (10, 4, 2, &[10, 8, 6])];
+    let others = schemes.map(|(n, r, z, counts)| Scheme::new(n, r, z, counts.to_vec()).unwrap());
+    [&others[..], &[Scheme::default(), Scheme::former_default()]].concat()
 }
 
 /// A call for every count, of messages of this length.
@@ -155,21 +157,22 @@ fn shares_of_the_earlier_form() {
         (&b" noon."[..], Err(11)),
         (&[0, 0, 0, 0, 0, 0], Err(11)),
         (&[7, 0, 0, 0, 0, 0], Err(11)),
-        (&[7, 7, 7, 7, 7, 128], Ok((54, 28))),
-        (&[7, 7, 128, 0, 0, 0], Ok((54, 25))),
+        (&[7, 7, 7, 7, 7, 128], Ok((90, 28))),
+        (&[7, 7, 128, 0, 0, 0], Ok((90, 25))),
         (&[128, 0, 128, 0, 0, 1], Err(11)),
     ] {
         let message = [b"Call the client before ", ending].concat();
-        let (mut shares, mut opened) = (vec![0; 5 * 18], vec![3; 36]);
-        assert_eq!(library::split_default(&message, &[9; 18], &mut shares), Ok(18));
-        let share = |party: &u8| &shares[(*party as usize - 1) * 18..][..18];
-        assert_eq!(library::prefix_padded_default(3, share(&1)), Ok(18));
+        // 29 bytes in 5 blocks of 6.
+        let (mut shares, mut opened) = (vec![0; 5 * 30], vec![3; 30]);
+        assert_eq!(library::split_default(&message, &[9; 60], &mut shares), Ok(30));
+        let share = |party: &u8| &shares[(*party as usize - 1) * 30..][..30];
+        assert_eq!(library::prefix_padded_default(3, share(&1)), Ok(30));
         let prefixes: Vec<u8> = parties.iter().flat_map(share).copied().collect();
         let answer = library::reconstruct_padded_default(&parties, &prefixes, &mut opened);
         assert_eq!(answer, expected, "{ending:?}");
         match answer {
-            Ok(_) => assert!(opened[..29] == message && opened[29..] == [0; 7]),
-            Err(_) => assert_eq!(opened, [3; 36]),
+            Ok(_) => assert!(opened[..29] == message && opened[29..] == [0]),
+            Err(_) => assert_eq!(opened, [3; 30]),
         }
     }
 }

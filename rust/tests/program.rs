@@ -2,7 +2,7 @@
 
 use folder::Folder;
 use gilunavoi::library;
-use gilunavoi::limits::MAX_MESSAGE;
+use gilunavoi::limits::{DEFAULT_N, DEFAULT_Z, MAX_MESSAGE};
 use std::fs;
 use std::process::Command;
 
@@ -14,6 +14,9 @@ impl Folder {
         (1..=5).flat_map(|party| self.bytes(&format!("{folder}/share-{party}"))).collect()
     }
 }
+
+/// The words that name the former default.
+const FORMER: &str = "--scheme 5,2,1,5,4,3 ";
 
 /// The words of a command line that ask for a form of message: of `split`, and of the other two.
 fn padded(_: usize) -> (String, String) {
@@ -72,9 +75,13 @@ fn round_trips() {
     let folder = Folder::new("round");
     // The parties may be named in any order.
     let readings: [&[usize]; 4] = [&[1, 2, 3, 4, 5], &[5, 1, 4, 2], &[2, 4, 5], &[3, 2, 1]];
-    for (length, keys, earlier_keys) in [(100, 54, 54), (0, 6, 0), (11, 6, 6), (12, 12, 6), (MAX_MESSAGE, 8196, 8196)] {
-        round_trip(&folder, padded, "", length, keys, &readings);
-        round_trip(&folder, unpadded, "", length, earlier_keys, &readings);
+    let default = [(100, 204, 204), (0, 12, 0), (5, 12, 12), (6, 24, 12), (MAX_MESSAGE, 32772, 32772)];
+    let former = [(100, 54, 54), (0, 6, 0), (11, 6, 6), (12, 12, 6), (MAX_MESSAGE, 8196, 8196)];
+    for (scheme, lengths) in [("", default), (FORMER, former)] {
+        for (length, keys, earlier_keys) in lengths {
+            round_trip(&folder, padded, scheme, length, keys, &readings);
+            round_trip(&folder, unpadded, scheme, length, earlier_keys, &readings);
+        }
     }
     let readings: [&[usize]; 3] = [&[7, 6, 5, 4, 3, 2, 1], &[1, 3, 5, 6, 7], &[2, 4, 6, 7]];
     for form in [padded, unpadded] {
@@ -96,12 +103,17 @@ fn the_most_blocks() {
 fn the_default_scheme() {
     let folder = Folder::new("default");
     folder.write("message", 25);
-    folder.write("keys", 18);
+    folder.write("keys", 60);
     let (message, keys) = (folder.bytes("message"), folder.bytes("keys"));
-    folder.says("split message keys shares");
+    let said = folder.says("split message keys shares");
     assert_eq!(folder.shares("shares"), expected_shares(library::split_padded_default, &message, &keys));
+    assert!(said.ends_with("\nThe scheme is the default, 5,2,2,5,4,3.\n"), "{said}");
     folder.says("split --unpadded message keys unpadded");
     assert_eq!(folder.shares("unpadded"), expected_shares(library::split_default, &message, &keys));
+    // The same scheme, named.
+    let said = folder.says("split --scheme 5,2,2,5,4,3 message keys named");
+    assert_eq!(folder.shares("named"), folder.shares("shares"));
+    assert!(said.ends_with("\nThe scheme is 5,2,2,5,4,3.\n"), "{said}");
 }
 
 /// What is said to who takes shares of one form for the other. The message of 24 bytes fills its blocks, so that its
@@ -111,7 +123,7 @@ fn the_two_forms_mixed_up() {
     let folder = Folder::new("mixed");
     let need = "shares of the earlier form, which split --unpadded writes, need --length\n";
     let only = "--length is for shares of the earlier form, which split --unpadded writes\n";
-    for (name, length, keys, earlier_keys) in [("25", 25, 18, 18), ("24", 24, 18, 12), ("0", 0, 6, 0)] {
+    for (name, length, keys, earlier_keys) in [("25", 25, 60, 60), ("24", 24, 60, 48), ("0", 0, 12, 0)] {
         folder.write(name, length);
         folder.write("keys", keys);
         folder.says(&format!("split {name} keys padded-{name}"));
@@ -144,7 +156,7 @@ fn files_are_the_owners_alone() {
     use std::os::unix::fs::PermissionsExt;
     let folder = Folder::new("owner");
     folder.write("message", 5);
-    folder.write("keys", 6);
+    folder.write("keys", 12);
     folder.says("split message keys shares");
     let mode = |name: &str| fs::metadata(folder.0.join(name)).expect("a file").permissions().mode() & 0o777;
     assert_eq!((mode("shares"), mode("shares/share-3")), (0o700, 0o600));
@@ -162,7 +174,10 @@ fn schemes() {
         3          3       9\n";
     assert_eq!(folder.says("scheme 7 4 1 7,4,3"), sheet);
     assert_eq!(folder.says("scheme 7,4,1,7,4,3"), sheet);
-    assert_eq!(folder.says("scheme"), folder.says("scheme 5 2 1 5 4 3"));
+    let default = "N 5, R 2, Z 2, counts 5,4,3\n\
+        A block has 6 bytes in 6 rows, and takes 12 key bytes.\n";
+    assert!(folder.says("scheme").starts_with(default));
+    assert_eq!(folder.says("scheme"), folder.says("scheme 5 2 2 5 4 3"));
     for (scheme, number) in [
         ("1 0 1 1", 1),
         ("17 2 1 17,15", 1),
@@ -190,7 +205,7 @@ fn refusals_of_split() {
     for (name, length) in [("message", 24), ("keys", 18), ("short", 17), ("long", long), ("endless", 1 << 21)] {
         folder.write(name, length);
     }
-    for (unpadded, needed) in [("", 18), ("--unpadded ", 12)] {
+    for (unpadded, needed) in [("", 60), ("--unpadded ", 48)] {
         let needs = format!("needs {needed} bytes, and");
         folder.refuses(&format!("split {unpadded}long keys shares"), 5, &format!("\"long\" has {long} bytes"));
         folder.refuses(&format!("split {unpadded}endless keys shares"), 5, "\"endless\" has more than 1048576 bytes");
@@ -203,12 +218,12 @@ fn refusals_of_split() {
 /// Of both forms, `length` being the option that asks for the earlier one. The message has 25 bytes.
 fn refusals_of_readers(folder: &Folder, unpadded: &str, length: &str) {
     folder.write("message", 25);
-    folder.write("keys", 18);
+    folder.write("keys", 60);
     folder.write("short", 17);
     folder.says(&format!("split {unpadded}message keys shares"));
     let lengths = |what: &str, of_a_block: usize, file: &str| match length {
-        "" => format!("\n{what} has {of_a_block} bytes for each of 1 to 1366 blocks, and {file} bytes\n"),
-        _ => format!("\nwith --length 25 {what} has {} bytes, and {file} bytes\n", 3 * of_a_block),
+        "" => format!("\n{what} has {of_a_block} bytes for each of 1 to 2731 blocks, and {file} bytes\n"),
+        _ => format!("\nwith --length 25 {what} has {} bytes, and {file} bytes\n", 5 * of_a_block),
     };
 
     let no_count = "--readers is 2, and the scheme is N 5";
@@ -229,7 +244,7 @@ fn refusals_of_readers(folder: &Folder, unpadded: &str, length: &str) {
         (" 1=p1 4=p2 3=p3 4=p4", 7, "[1, 3, 4, 4]"),
         (" 0=p1 2=p2 3=p3 4=p4", 7, "[0, 2, 3, 4]"),
         (" 1=p1 2=p2 3=p3 6=p4", 7, "[1, 2, 3, 6]"),
-        (" 1=p1 2=short 3=p3 4=p4", 9, &lengths("a prefix for 4 parties", 4, "\"short\" has 17")),
+        (" 1=p1 2=short 3=p3 4=p4", 9, &lengths("a prefix for 4 parties", 3, "\"short\" has 17")),
     ] {
         folder.refuses(&format!("reconstruct {length}out{parties}"), number, detail);
     }
@@ -239,18 +254,18 @@ fn refusals_of_readers(folder: &Folder, unpadded: &str, length: &str) {
 fn refusals_of_readers_of_padded_messages() {
     let folder = Folder::new("refusals-padded");
     refusals_of_readers(&folder, "", "");
-    // The whole share of one party has 4 bytes for each of 4.5 blocks; with 20 bytes there are 5.
-    folder.refuses("reconstruct out 1=p1 2=p2 3=p3 4=shares/share-4", 9, "\"shares/share-4\" has 18 bytes");
+    // 20 bytes are 3 for each of 6.7 blocks; the whole share of one party has them for each of 10.
     folder.write("20", 20);
-    let unequal = "equally long, but \"p3\" has 12 bytes and \"20\" has 20 bytes";
-    folder.refuses("reconstruct out 1=p1 2=p2 3=p3 4=20", 9, unequal);
+    folder.refuses("reconstruct out 1=p1 2=p2 3=p3 4=20", 9, "2731 blocks, and \"20\" has 20 bytes");
+    let unequal = "equally long, but \"p3\" has 15 bytes and \"shares/share-4\" has 30 bytes";
+    folder.refuses("reconstruct out 1=p1 2=p2 3=p3 4=shares/share-4", 9, unequal);
     folder.write("empty", 0);
-    folder.refuses("prefix --readers 4 empty out", 9, "1366 blocks, and \"empty\" has 0 bytes");
-    folder.refuses("reconstruct out 1=empty 2=empty 3=empty 4=empty", 9, "1366 blocks, and \"empty\" has 0 bytes");
+    folder.refuses("prefix --readers 4 empty out", 9, "2731 blocks, and \"empty\" has 0 bytes");
+    folder.refuses("reconstruct out 1=empty 2=empty 3=empty 4=empty", 9, "2731 blocks, and \"empty\" has 0 bytes");
     // One block more than the longest message has.
-    folder.write("long", 1367 * 6);
-    folder.refuses("prefix --readers 3 long out", 9, "1366 blocks, and \"long\" has 8202 bytes");
-    folder.refuses("reconstruct out 1=long 2=long 3=long", 9, "1366 blocks, and \"long\" has 8202 bytes");
+    folder.write("long", 2732 * 6);
+    folder.refuses("prefix --readers 3 long out", 9, "2731 blocks, and \"long\" has 16392 bytes");
+    folder.refuses("reconstruct out 1=long 2=long 3=long", 9, "2731 blocks, and \"long\" has 16392 bytes");
 }
 
 #[test]
@@ -263,13 +278,15 @@ fn refusals_of_readers_who_tell_the_length() {
     folder.refuses(&format!("reconstruct --length {huge} out {all}"), 5, &format!("{huge}"));
 }
 
-/// Splits a message of two blocks, and cuts prefixes for 5 readers out of the shares.
-fn two_blocks(folder: &Folder, name: &str, message: &[u8]) {
+/// Splits a message in this scheme, in which it needs so many keys, and cuts prefixes for 5 readers out of the shares.
+fn shares_and_prefixes(folder: &Folder, scheme: &str, keys: usize, name: &str, message: &[u8]) {
     fs::write(folder.0.join(name), message).expect("a written file");
-    fs::write(folder.0.join("keys"), &message[..12]).expect("a written file");
-    folder.says(&format!("split {name} keys {name}-shares"));
+    let keys: Vec<u8> = message.iter().copied().cycle().take(keys).collect();
+    fs::write(folder.0.join("keys"), keys).expect("a written file");
+    folder.says(&format!("split {scheme}{name} keys {name}-shares"));
     for party in 1..=5 {
-        folder.says(&format!("prefix --readers 5 {name}-shares/share-{party} {name}-shares/short-{party}"));
+        let share = format!("{name}-shares/share-{party} {name}-shares/short-{party}");
+        folder.says(&format!("prefix {scheme}--readers 5 {share}"));
     }
 }
 
@@ -283,8 +300,9 @@ fn of_three(options: &str, files: &str, last: &str) -> String {
 #[test]
 fn no_end() {
     let folder = Folder::new("no-end");
-    two_blocks(&folder, "a", b"Call the client.");
-    two_blocks(&folder, "b", b"The car is here.");
+    // 3 blocks of 6 bytes: the prefixes for 5 readers are as long as a share of one.
+    shares_and_prefixes(&folder, "", 36, "a", b"Call the client.");
+    shares_and_prefixes(&folder, "", 36, "b", b"The car is here.");
     for (options, files, last) in [
         ("", "a-shares/share", "b-shares/share-3"),
         ("", "a-shares/share", "a-shares/share-4"),
@@ -302,23 +320,24 @@ fn no_end() {
 /// The end is all that is looked at, and it is said that the rest may be wrong. Here it is: a false byte of another block;
 /// prefixes that were cut for more readers, and whole shares where prefixes are needed (read for another number of
 /// parties, the rows of these two messages end in 128 too); shares of the earlier form whose message ends in a byte 128.
+/// The two messages were found for the scheme of the former default, in which each has two blocks.
 #[test]
 fn what_goes_unnoticed() {
     let folder = Folder::new("unnoticed");
-    two_blocks(&folder, "a", b"Call the client back.");
-    two_blocks(&folder, "b", b"Call the client at noon");
+    shares_and_prefixes(&folder, FORMER, 12, "a", b"Call the client back.");
+    shares_and_prefixes(&folder, FORMER, 12, "b", b"Call the client at noon");
     let mut share = folder.bytes("a-shares/share-3");
     share[0] ^= 1;
     fs::write(folder.0.join("false"), share).expect("a written file");
     let five: String = (1..=5).map(|party| format!(" {party}=b-shares/share-{party}")).collect();
     // In UTF-8 its last letter ends in a byte 128.
     fs::write(folder.0.join("c"), "Rendez-vous À").expect("a written file");
-    folder.says("split --unpadded c keys c-shares");
+    folder.says(&format!("split {FORMER}--unpadded c keys c-shares"));
     for (line, message, length) in [
-        (of_three("", "a-shares/share", "false"), "a", 21),
-        (of_three("", "a-shares/short", "a-shares/short-3"), "a", 11),
-        (format!("reconstruct out{five}"), "b", 45),
-        (of_three("", "c-shares/share", "c-shares/share-3"), "c", 13),
+        (of_three(FORMER, "a-shares/share", "false"), "a", 21),
+        (of_three(FORMER, "a-shares/short", "a-shares/short-3"), "a", 11),
+        (format!("reconstruct {FORMER}out{five}"), "b", 45),
+        (of_three(FORMER, "c-shares/share", "c-shares/share-3"), "c", 13),
     ] {
         let said = folder.says(&line);
         assert!(said.contains("form or number of readers can go unnoticed.\n"), "{said}");
@@ -332,21 +351,21 @@ fn what_goes_unnoticed() {
 #[test]
 fn one_prefix_too_long_and_one_too_short() {
     let folder = Folder::new("odd");
-    for (name, length) in [("a", 12), ("b", 13), ("c", 11), ("d", 12), ("e", 16), ("f", 8)] {
+    for (name, length) in [("a", 15), ("b", 16), ("c", 14), ("d", 15), ("e", 18), ("f", 12)] {
         folder.write(name, length);
     }
-    folder.refuses("reconstruct --length 25 out 1=a 2=b 3=c 4=d", 9, "has 12 bytes, and \"b\" has 13 bytes");
-    folder.refuses("reconstruct out 1=a 2=b 3=c 4=d", 9, "1366 blocks, and \"b\" has 13 bytes");
+    folder.refuses("reconstruct --length 25 out 1=a 2=b 3=c 4=d", 9, "has 15 bytes, and \"b\" has 16 bytes");
+    folder.refuses("reconstruct out 1=a 2=b 3=c 4=d", 9, "2731 blocks, and \"b\" has 16 bytes");
     // One block more and one less.
-    folder.refuses("reconstruct --length 25 out 1=a 2=d 3=e 4=f", 9, "has 12 bytes, and \"e\" has 16 bytes");
-    folder.refuses("reconstruct out 1=a 2=d 3=e 4=f", 9, "but \"d\" has 12 bytes and \"e\" has 16 bytes");
+    folder.refuses("reconstruct --length 25 out 1=a 2=d 3=e 4=f", 9, "has 15 bytes, and \"e\" has 18 bytes");
+    folder.refuses("reconstruct out 1=a 2=d 3=e 4=f", 9, "but \"d\" has 15 bytes and \"e\" has 18 bytes");
 }
 
 #[test]
 fn nothing_is_overwritten_or_left_behind() {
     let folder = Folder::new("left");
     folder.write("message", 25);
-    folder.write("keys", 18);
+    folder.write("keys", 60);
     fs::create_dir(folder.0.join("shares")).expect("a folder");
     folder.write("shares/share-2", 4);
     let before = folder.bytes("shares/share-2");
@@ -368,8 +387,9 @@ type Splitter = fn(&[u8], &[u8], &mut [u8]) -> library::Answer;
 
 /// The shares that the default scheme makes of a message, party after party.
 fn expected_shares(split: Splitter, message: &[u8], keys: &[u8]) -> Vec<u8> {
-    let mut shares = vec![0; 5 * keys.len()];
-    assert_eq!(split(message, keys, &mut shares), Ok(keys.len() as u64));
+    let share = keys.len() / DEFAULT_Z as usize;
+    let mut shares = vec![0; DEFAULT_N as usize * share];
+    assert_eq!(split(message, keys, &mut shares), Ok(share as u64));
     shares
 }
 
@@ -377,7 +397,7 @@ fn expected_shares(split: Splitter, message: &[u8], keys: &[u8]) -> Vec<u8> {
 #[test]
 fn runs_at_once_into_one_folder() {
     let folder = Folder::new("at-once");
-    folder.write("keys", 18);
+    folder.write("keys", 60);
     let messages = ["a", "b", "c", "d"];
     for (place, name) in messages.iter().enumerate() {
         fs::write(folder.0.join(name), vec![place as u8; 25]).expect("a written file");
@@ -400,10 +420,10 @@ fn runs_at_once_into_one_folder() {
 fn a_failure_in_the_middle() {
     let folder = Folder::new("middle");
     folder.write("message", MAX_MESSAGE);
-    folder.write("keys", 8196);
+    folder.write("keys", 32772);
     let left = folder.names();
 
-    // A share of 8,196 bytes does not fit into a file of at most 8 × 512 bytes.
+    // A share of 16,386 bytes does not fit into a file of at most 8 × 512 bytes.
     let limited = "trap '' XFSZ; ulimit -f 8; exec \"$0\" split message keys shares";
     folder.shell_fails(limited, "cannot write \"shares/share-1\": ");
     assert_eq!(folder.names(), left);
@@ -537,7 +557,7 @@ fn plain_words() {
 fn any_file_name() {
     use std::os::unix::ffi::OsStrExt;
     let folder = Folder::new("names");
-    folder.write("keys", 6);
+    folder.write("keys", 12);
     let name = std::ffi::OsStr::from_bytes(b"\xff=\xfe");
     fs::write(folder.0.join(name), b"").expect("a file");
     let mut command = Command::new(env!("CARGO_BIN_EXE_sharing"));

@@ -1,7 +1,7 @@
 //! The basis and the opener against the other implementation, and round trips, in both forms of message.
 
 use gilunavoi::cases::{all_schemes, length, parties, Call, Form, Scheme, FORMS};
-use gilunavoi::limits::{MAX_BLOCK, MAX_MESSAGE, MAX_PARTIES};
+use gilunavoi::limits::*;
 use gilunavoi::random::Random;
 use gilunavoi::{calls, compare};
 
@@ -111,10 +111,11 @@ fn comes_back(call: &Call, split: &Split) {
 
 /// n, r, z and the counts: one to three colluding parties and fifteen, neighbouring counts and gaps, blocks of one byte,
 /// short ones and the longest.
-const SCHEMES: [(u8, u8, u8, &[u8]); 10] = [
+const SCHEMES: [(u8, u8, u8, &[u8]); 11] = [
+    (DEFAULT_N, DEFAULT_R, DEFAULT_Z, &DEFAULT_COUNTS),
+    (FORMER_DEFAULT_N, FORMER_DEFAULT_R, FORMER_DEFAULT_Z, &FORMER_DEFAULT_COUNTS),
     (2, 0, 1, &[2]),
     (16, 0, 15, &[16]),
-    (5, 2, 1, &[5, 4, 3]),
     (7, 4, 1, &[7, 4, 3]),
     (9, 3, 1, &[9, 8, 7, 6]),
     (10, 4, 1, &[10, 6]),
@@ -174,7 +175,7 @@ fn every_count_and_the_ends_of_blocks_and_batches() {
         }
     }
     println!("{cases} cases, {openings} openings of shares, and as many of other prefixes");
-    assert_eq!(cases, 2 * 204);
+    assert_eq!(cases, 2 * 231);
 }
 
 /// Blocks of one byte: the longest message makes one block more than it has bytes.

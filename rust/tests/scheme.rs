@@ -91,7 +91,9 @@ fn the_limits() {
 }
 
 #[test]
-fn the_default_scheme() {
+fn the_default_scheme_and_the_former() {
     let scheme = Scheme::default();
-    assert_eq!((scheme.m, scheme.b, check(&scheme)), (12, 6, Ok(())));
+    assert_eq!((scheme.m, scheme.b, check(&scheme)), (6, 6, Ok(())));
+    let scheme = Scheme::former_default();
+    assert_eq!((scheme.m, scheme.b, check(&scheme), scheme.is_default()), (12, 6, Ok(()), false));
 }

@@ -1,7 +1,7 @@
 //! Splitting and prefixes against the other implementation, in both forms of message.
 
 use gilunavoi::cases::{all_schemes, length, Call, Form, Scheme, FORMS};
-use gilunavoi::limits::{MAX_BLOCK, MAX_MESSAGE, MAX_PARTIES};
+use gilunavoi::limits::*;
 use gilunavoi::random::Random;
 use gilunavoi::{compare, library, reference};
 
@@ -59,7 +59,7 @@ fn every_prefix_of_every_scheme() {
 fn the_default_scheme() {
     let mut random = Random::new(6);
     let ends = [1535, 1536, 1537, MAX_MESSAGE - 4, MAX_MESSAGE - 1, MAX_MESSAGE];
-    let lengths: Vec<usize> = (0..=100).chain(760..=780).chain(ends).collect();
+    let lengths: Vec<usize> = (0..=100).chain(376..=392).chain(760..=780).chain(ends).collect();
     for &length in &lengths {
         for form in FORMS {
             let mut call = Call::drawn(&mut random, form, &Scheme::default(), length);
@@ -78,9 +78,10 @@ fn the_default_scheme() {
 fn every_length_of_a_padded_share() {
     let mut random = Random::new(23);
     let mut lengths = 0;
-    // Blocks of 12, 1, 6, 90 and 840 bytes in 6, 1, 6, 18 and 168 rows.
-    let schemes: [(u8, u8, u8, &[u8]); 5] = [
-        (5, 2, 1, &[5, 4, 3]),
+    // Blocks of 6, 12, 1, 6, 90 and 840 bytes in 6, 6, 1, 6, 18 and 168 rows.
+    let schemes: [(u8, u8, u8, &[u8]); 6] = [
+        (DEFAULT_N, DEFAULT_R, DEFAULT_Z, &DEFAULT_COUNTS),
+        (FORMER_DEFAULT_N, FORMER_DEFAULT_R, FORMER_DEFAULT_Z, &FORMER_DEFAULT_COUNTS),
         (2, 0, 1, &[2]),
         (7, 3, 3, &[6, 5, 4]),
         (12, 4, 3, &[12, 9, 8]),

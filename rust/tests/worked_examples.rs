@@ -1,6 +1,7 @@
 //! The worked examples of the rules, on the proved library and on the other implementation: the two must not agree on
 //! something else.
 
+use gilunavoi::limits::{FORMER_DEFAULT_COUNTS, FORMER_DEFAULT_N, FORMER_DEFAULT_R, FORMER_DEFAULT_Z};
 use gilunavoi::{library, reference};
 
 /// Splits in the scheme n 3, r 1, z 1, counts 3 2.
@@ -92,15 +93,30 @@ fn schemes() {
     assert_eq!(check(17, 0, 1, &[17]), Err(1));
 }
 
+/// In the default scheme it makes 2,731 blocks of 6 bytes in 6 rows.
 #[test]
 fn the_longest_message() {
+    for (length, answer) in [(16384, Ok(2731 * 6)), (16385, Err(5))] {
+        let mut out = vec![0; 2731 * 30];
+        assert_eq!(library::split_default(&vec![1; length], &[2; 2731 * 12], &mut out), answer);
+        assert_eq!(library::split_padded_default(&vec![1; length], &[2; 2731 * 12], &mut out), answer);
+        assert_eq!(library::prefix_default(length, 3, &[0; 2731 * 6]), answer);
+    }
+    for (blocks, answer) in [(0, Err(9)), (1, Ok(6)), (2731, Ok(2731 * 6)), (2732, Err(9))] {
+        assert_eq!(library::prefix_padded_default(3, &vec![0; blocks * 6]), answer);
+    }
+}
+
+/// Shares of the longest message that were stored under the former default, where it makes 1,366 blocks of 12 bytes: their
+/// prefixes are cut by naming it.
+#[test]
+fn the_longest_message_in_the_former_default() {
+    let (n, r, z) = (FORMER_DEFAULT_N, FORMER_DEFAULT_R, FORMER_DEFAULT_Z);
     for (length, answer) in [(16384, Ok(1366 * 6)), (16385, Err(5))] {
-        let mut out = vec![0; 1366 * 30];
-        assert_eq!(library::split_default(&vec![1; length], &[2; 1366 * 6], &mut out), answer);
-        assert_eq!(library::split_padded_default(&vec![1; length], &[2; 1366 * 6], &mut out), answer);
-        assert_eq!(library::prefix_default(length, 3, &[0; 1366 * 6]), answer);
+        assert_eq!(library::prefix(n, r, z, &FORMER_DEFAULT_COUNTS, length, 3, &[0; 1366 * 6]), answer);
     }
     for (blocks, answer) in [(0, Err(9)), (1, Ok(6)), (1366, Ok(1366 * 6)), (1367, Err(9))] {
-        assert_eq!(library::prefix_padded_default(3, &vec![0; blocks * 6]), answer);
+        let share = vec![0; blocks * 6];
+        assert_eq!(library::prefix_padded(n, r, z, &FORMER_DEFAULT_COUNTS, 3, &share), answer);
     }
 }

@@ -2,7 +2,7 @@
 use crate::printing;
 use crate::shares::part;
 
-// In the default scheme it makes 1,366 blocks of 12 bytes, with 6 rows each: 8,196 bytes a share.
+// In the default scheme it makes 2,731 blocks of 6 bytes, with 6 rows each: 16,386 bytes a share, and twice as many keys.
 pub(crate) fn longest() {
     let mut message = [0u8; 16384];
     let mut out = [0u8; 16384];
@@ -29,8 +29,8 @@ fn fill(bytes: &mut [u8]) {
 
 // Makes room for the keys and the shares.
 fn show(message: &[u8], out: &mut [u8]) {
-    let keys = [3u8; 8196];
-    let mut shares = [0u8; 40980];
+    let keys = [3u8; 32772];
+    let mut shares = [0u8; 81930];
     printing::number(b"length", message.len());
     let written = sharing::split_default(message, &keys, &mut shares);
     printing::answer(b" written", written);
@@ -40,9 +40,9 @@ fn show(message: &[u8], out: &mut [u8]) {
 // Asks for the prefix of a share, and opens the message from the first three shares, which are their own prefixes where three
 // parties are read.
 fn show_back(message: &[u8], shares: &[u8], out: &mut [u8]) {
-    let length = sharing::prefix_length_default(message.len(), 3, part(shares, 0, 8196));
+    let length = sharing::prefix_length_default(message.len(), 3, part(shares, 0, 16386));
     printing::answer(b" prefix", length);
-    let prefixes = part(shares, 0, 24588);
+    let prefixes = part(shares, 0, 49158);
     let used = sharing::reconstruct_default(message.len(), &[1, 2, 3], prefixes, out);
     printing::answer(b" used", used);
     if check::same(message, out) {

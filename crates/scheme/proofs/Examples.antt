@@ -16,7 +16,7 @@ pub limits :
     × (endMarker ≡ 128)
     × (defaultN ≡ 5)
     × (defaultR ≡ 2)
-    × (defaultZ ≡ 1)
+    × (defaultZ ≡ 2)
     × (defaultCounts ≡ 5 ∷ 4 ∷ 3 ∷ [])
 limits = (refl, refl, refl, refl, refl, refl, refl, refl, refl)
 
@@ -25,8 +25,13 @@ unfolding divides firstFrom commonMultiple blockLength falls partiesRefused thre
 default-accepted = refl
 
 pub examples :
-    -- the default: 4, 3 and 2 are to divide m
-    (checked defaultN defaultR defaultZ defaultCounts ≡ accepted (5 ∷ 2 ∷ 1 ∷ 12 ∷ 6 ∷ []))
+    -- the default: 3, 2 and 1 are to divide m; and P of its counts
+    (checked defaultN defaultR defaultZ defaultCounts ≡ accepted (5 ∷ 2 ∷ 2 ∷ 6 ∷ 6 ∷ []))
+    × (rowsOfCount 6 defaultZ 5 ≡ 2)
+    × (rowsOfCount 6 defaultZ 4 ≡ 3)
+    × (rowsOfCount 6 defaultZ 3 ≡ 6)
+    -- the former default, of which shares are stored: 4, 3 and 2
+    × (checked 5 2 1 (5 ∷ 4 ∷ 3 ∷ []) ≡ accepted (5 ∷ 2 ∷ 1 ∷ 12 ∷ 6 ∷ []))
     -- at the limits: 16 parties, 8 counts, m 840
     × (checked 16 11 1 (16 ∷ 15 ∷ 13 ∷ 11 ∷ 9 ∷ 7 ∷ 6 ∷ 5 ∷ []) ≡ accepted (16 ∷ 11 ∷ 1 ∷ 840 ∷ 210 ∷ []))
     -- past them: 9 counts, m 858
@@ -55,4 +60,4 @@ pub examples :
     × (blocksHeld 1366 6 7 ≡ 0)
     × (blocksHeld 1366 6 8202 ≡ 0)
 unfolding divides firstFrom commonMultiple blockLength falls partiesRefused thresholdsRefused countsRefused blockRefused firstOf answer refusal rowsOfCount rowsOfBlock blockCount checked paddedCount blocksHeld
-examples = (refl, refl, refl, refl, refl, refl, refl, refl, refl, refl, refl, refl, refl, refl, refl, refl, refl, refl, refl, refl, refl)
+examples = (refl, refl, refl, refl, refl, refl, refl, refl, refl, refl, refl, refl, refl, refl, refl, refl, refl, refl, refl, refl, refl, refl, refl, refl, refl)

@@ -1,4 +1,4 @@
--- The limits and the default scheme of document 01. Each stands here and, for the code, in src/limits.rt.
+-- The limits of document 01, and the default scheme of document 02, c. Each stands here and, for the code, in src/limits.rt.
 -- Assumes nothing.
 use mathlib.Core.List.{List, [], _∷_}
 use Prim.Native.Nat.{ℕ, _+_}
@@ -31,7 +31,7 @@ abbrev pub defaultR : ℕ
 defaultR = 2
 
 abbrev pub defaultZ : ℕ
-defaultZ = 1
+defaultZ = 2
 
 abbrev pub defaultCounts : List ℕ
 defaultCounts = 5 ∷ 4 ∷ 3 ∷ []

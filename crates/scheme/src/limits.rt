@@ -1,4 +1,4 @@
-// The limits and the default scheme of document 01; for the contracts they stand in specs/Limits.antt.
+// The limits of document 01, and the default scheme of document 02, c; for the contracts they stand in specs/Limits.antt.
 
 // The most parties.
 pub const MAX_PARTIES: u8 = 16;
@@ -14,6 +14,16 @@ pub const DEFAULT_N: u8 = 5;
 
 pub const DEFAULT_R: u8 = 2;
 
-pub const DEFAULT_Z: u8 = 1;
+pub const DEFAULT_Z: u8 = 2;
 
 pub const DEFAULT_COUNTS: [u8; 3] = [5, 4, 3];
+
+// The former default, that of document 01: to be named with shares that were stored under it, since nothing in a share tells
+// its scheme. No call takes it by itself, and it does not move with the default.
+pub const FORMER_DEFAULT_N: u8 = 5;
+
+pub const FORMER_DEFAULT_R: u8 = 2;
+
+pub const FORMER_DEFAULT_Z: u8 = 1;
+
+pub const FORMER_DEFAULT_COUNTS: [u8; 3] = [5, 4, 3];

@@ -1,12 +1,14 @@
 // Splits messages, hands out prefixes, makes bases and opens messages, and prints what comes back, for
 // comparison with values that were computed by other means.
 mod bases;
+mod former;
 mod lent;
 mod openings;
 mod padded;
 mod prefixes;
 mod printing;
 mod splits;
+mod stored;
 
 fn main() {
     splits::two_blocks();
@@ -27,4 +29,6 @@ fn main() {
     padded::splits();
     padded::prefixes();
     padded::openings();
+    stored::earlier();
+    stored::padded();
 }

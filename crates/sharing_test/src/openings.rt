@@ -1,7 +1,9 @@
 // Openings.
+use crate::former;
 use crate::lent::cut;
 use crate::lent::pattern;
 use crate::printing;
+use sharing::Answer;
 
 // The examples of document 01 in its plan A, and prefixes that no splitter wrote.
 pub(crate) fn of_scheme_a() {
@@ -10,12 +12,15 @@ pub(crate) fn of_scheme_a() {
     show_a(&[2, 3], &[1, 2, 3, 4]);
 }
 
-// More of them, with several groups of rows.
+// More of them, with several groups of rows: the former default and others, and the default.
 pub(crate) fn of_groups() {
-    show_pattern(5, 2, 1, &[5, 4, 3], &[1, 2, 4, 5], 32);
-    show_pattern(5, 2, 1, &[5, 4, 3], &[1, 3, 5], 36);
+    show_former(&[1, 2, 4, 5], 32);
+    show_former(&[1, 3, 5], 36);
     show_pattern(7, 4, 1, &[7, 4, 3], &[2, 5, 7], 27);
     show_pattern(6, 2, 2, &[6, 4], &[1, 2, 3, 6], 32);
+    show_default(&[1, 2, 3, 4, 5], 30);
+    show_default(&[1, 2, 4, 5], 36);
+    show_default(&[1, 3, 5], 54);
 }
 
 // Each refusal. The output has 2 bytes, a block of plan A.
@@ -73,6 +78,22 @@ fn show_a(parties: &[u8], prefixes: &[u8]) {
 }
 
 // A message of 13 bytes, from so many bytes of a pattern.
+fn show_former(parties: &[u8], prefixes: usize) {
+    let bytes = pattern(5);
+    let mut out = [0u8; 13];
+    let used = former::reconstruct(13, parties, cut(&bytes, prefixes), &mut out);
+    print(used, &out);
+}
+
+// The same in the default scheme.
+fn show_default(parties: &[u8], prefixes: usize) {
+    let bytes = pattern(5);
+    let mut out = [0u8; 13];
+    let used = sharing::reconstruct_default(13, parties, cut(&bytes, prefixes), &mut out);
+    print(used, &out);
+}
+
+// The same in a scheme.
 fn show_pattern(n: u8, r: u8, z: u8, counts: &[u8], parties: &[u8], prefixes: usize) {
     let bytes = pattern(5);
     let mut out = [0u8; 13];
@@ -100,6 +121,10 @@ fn show(
     out: &mut [u8],
 ) {
     let used = sharing::reconstruct(n, r, z, counts, length, parties, prefixes, out);
+    print(used, out);
+}
+
+pub(crate) fn print(used: Answer, out: &[u8]) {
     printing::answer(b"used ", used);
     printing::bytes(out);
 }

@@ -1,5 +1,7 @@
 // Padded messages (document 02, a): their shares, prefixes and openings.
+use crate::former;
 use crate::lent::cut;
+use crate::prefixes;
 use crate::printing;
 use sharing::PaddedAnswer;
 
@@ -13,14 +15,21 @@ pub(crate) fn splits() {
     show_split(&[5, 7], &[9, 4, 2, 6], &mut out);
 }
 
-// In the default scheme: one block, the most that an accepted message makes and one more, no block and a part of one.
+// One block, the most that an accepted message makes and one more, no block and a part of one: of shares stored under the
+// former default, and in the default scheme.
 pub(crate) fn prefixes() {
-    show_prefix(4, 6);
-    show_prefix(3, 8196);
-    show_prefix(3, 8202);
-    show_prefix(3, 0);
-    show_prefix(5, 7);
-    show_prefix(2, 7);
+    show_former(4, 6);
+    show_former(3, 8196);
+    show_former(3, 8202);
+    show_former(3, 0);
+    show_former(5, 7);
+    show_former(2, 7);
+    show_default(4, 6);
+    show_default(3, 16386);
+    show_default(3, 16392);
+    show_default(3, 0);
+    show_default(5, 7);
+    show_default(2, 7);
 }
 
 // In plan A: from three parties and from two, an end at the block's beginning, none, none in two bytes of zeros, and two
@@ -46,15 +55,21 @@ fn show_split(message: &[u8], keys: &[u8], out: &mut [u8]) {
 }
 
 // The share has so many bytes.
-fn show_prefix(d: usize, bytes: usize) {
+fn show_former(d: usize, bytes: usize) {
     let zeros = [0u8; 8202];
+    let share = cut(&zeros, bytes);
+    let length = former::prefix_padded_length(d, share);
+    let part = former::prefix_padded(d, share);
+    prefixes::print(b"padded prefix ", length, share.len(), part.len());
+}
+
+// The same in the default scheme.
+fn show_default(d: usize, bytes: usize) {
+    let zeros = [0u8; 16392];
     let share = cut(&zeros, bytes);
     let length = sharing::prefix_padded_length_default(d, share);
     let part = sharing::prefix_padded_default(d, share);
-    printing::answer(b"padded prefix ", length);
-    printing::number(b" of ", share.len() as u64);
-    printing::number(b", handed ", part.len() as u64);
-    printing::bytes(&[]);
+    prefixes::print(b"padded prefix ", length, share.len(), part.len());
 }
 
 fn show_opening(parties: &[u8], prefixes: &[u8]) {
@@ -63,7 +78,7 @@ fn show_opening(parties: &[u8], prefixes: &[u8]) {
     printing::bytes(&out);
 }
 
-fn show_answer(answer: PaddedAnswer) {
+pub(crate) fn show_answer(answer: PaddedAnswer) {
     match answer {
         PaddedAnswer::Opened { used, length } => show_numbers(used as u64, length as u64),
         PaddedAnswer::Refused(number) => printing::number(b"refused ", number as u64),

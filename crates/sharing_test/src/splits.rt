@@ -2,6 +2,14 @@
 use crate::lent::cut;
 use crate::lent::pattern;
 use crate::printing;
+use scheme::limits::DEFAULT_COUNTS;
+use scheme::limits::DEFAULT_N;
+use scheme::limits::DEFAULT_R;
+use scheme::limits::DEFAULT_Z;
+use scheme::limits::FORMER_DEFAULT_COUNTS;
+use scheme::limits::FORMER_DEFAULT_N;
+use scheme::limits::FORMER_DEFAULT_R;
+use scheme::limits::FORMER_DEFAULT_Z;
 
 // Two blocks, of all parties: the share of party 1 alone would be the same if the blocks stood one after another.
 pub(crate) fn two_blocks() {
@@ -9,13 +17,15 @@ pub(crate) fn two_blocks() {
     show(3, 1, 1, &[3, 2], &[5, 7, 1], &[9, 4, 2, 6], &mut out);
 }
 
-// The scheme of Figure 2b, the default, one count alone, and an empty message.
+// The scheme of Figure 2b, the former default, one count alone, an empty message, and the default.
 pub(crate) fn small_schemes() {
     show_pattern(7, 4, 1, &[7, 4, 3], 6, 3, 21);
-    show_pattern(5, 2, 1, &[5, 4, 3], 12, 6, 30);
-    show_pattern(5, 2, 1, &[5, 4, 3], 13, 12, 60);
+    show_former(12, 6, 30);
+    show_former(13, 12, 60);
     show_pattern(2, 0, 1, &[2], 3, 3, 6);
-    show_pattern(5, 2, 1, &[5, 4, 3], 0, 0, 0);
+    show_former(0, 0, 0);
+    show_default(6, 12, 30);
+    show_default(13, 36, 90);
 }
 
 // Schemes that show the order of the copies (gaps of 2 and more between the counts) and of the keys
@@ -62,6 +72,24 @@ fn show_refused(n: u8, r: u8, z: u8, counts: &[u8], message: usize, keys: usize)
         cut(&zeros, keys),
         &mut out,
     );
+}
+
+fn show_former(message: usize, keys: usize, out: usize) {
+    let counts = FORMER_DEFAULT_COUNTS;
+    show_pattern(
+        FORMER_DEFAULT_N,
+        FORMER_DEFAULT_R,
+        FORMER_DEFAULT_Z,
+        &counts,
+        message,
+        keys,
+        out,
+    );
+}
+
+fn show_default(message: usize, keys: usize, out: usize) {
+    let counts = DEFAULT_COUNTS;
+    show_pattern(DEFAULT_N, DEFAULT_R, DEFAULT_Z, &counts, message, keys, out);
 }
 
 // Splits a message of so many bytes of a pattern.

@@ -19,6 +19,6 @@ pub examples :
     -- the sheet of a scheme, of one that is refused as r and z are absent, and of the default, which no input means
     (sheetText (7 ∷ 4 ∷ 1 ∷ 7 ∷ 4 ∷ 3 ∷ []) ≡ ascii "block 6 rows 3\n7 1 7\n4 2 8\n3 3 9\n")
     × (sheetText (3 ∷ []) ≡ ascii "refused 2\n")
-    × (sheetText [] ≡ ascii "block 12 rows 6\n5 3 15\n4 4 16\n3 6 18\n")
+    × (sheetText [] ≡ ascii "block 6 rows 6\n5 2 10\n4 3 12\n3 6 18\n")
 unfolding divides firstFrom commonMultiple blockLength falls partiesRefused thresholdsRefused countsRefused blockRefused firstOf refusal rowsOfCount rowsOfBlock digits decimal line countLine countLines schemeText sheetText
 examples = (refl, refl, refl)

@@ -11,9 +11,10 @@ fn main() {
 
 // Schemes that are accepted.
 fn accepted() {
-    // The document's example, the default scheme, and the default written out.
+    // The document's example, the default scheme, the default written out, and the former default.
     show(&[7, 4, 1, 7, 4, 3]);
     show(&[]);
+    show(&[5, 2, 2, 5, 4, 3]);
     show(&[5, 2, 1, 5, 4, 3]);
     // The longest block, and the longest text: eight counts.
     show(&[9, 3, 1, 9, 8, 7, 6]);

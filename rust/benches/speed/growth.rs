@@ -55,12 +55,15 @@ fn longer_blocks(random: &mut Random, length: usize) -> Vec<Step> {
 
 pub fn series(random: &mut Random) -> Vec<Series> {
     let lengths = [1, 64, 256, 1024, 4096, MAX_MESSAGE];
-    let with_length = lengths.map(|length| step(random, format!("L {length}"), &Scheme::default(), length));
+    let mut with_length =
+        |scheme: Scheme| lengths.map(|length| step(random, format!("L {length}"), &scheme, length)).into();
+    let [of_default, of_former] = [Scheme::default(), Scheme::former_default()].map(&mut with_length);
     let with_parties = [4, 8, 12, 16].map(|n| step(random, format!("n {n}"), &scheme(n, n - 3, 1, vec![3]), MAX_MESSAGE));
     let with_colluders =
         [1, 2, 4, 8].map(|z| step(random, format!("z {z}"), &scheme(12, 8 - z, z, vec![z + 4]), MAX_MESSAGE));
     vec![
-        Series { about: "L, default scheme:", steps: with_length.into() },
+        Series { about: "L, default scheme:", steps: of_default },
+        Series { about: "L, former default:", steps: of_former },
         Series { about: "n, z 1, count 3 (m 2), 16 KiB:", steps: with_parties.into() },
         Series { about: "z, n 12, count z + 4 (m 4), 16 KiB:", steps: with_colluders.into() },
         Series { about: "m, n 9, z 1, counts from 9 down, 16 KiB:", steps: longer_blocks(random, MAX_MESSAGE) },

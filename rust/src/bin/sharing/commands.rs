@@ -72,7 +72,7 @@ fn split(arguments: &Arguments) -> Done {
     let blocks = if unpadded { block.blocks(length) } else { block.padded_blocks(length) };
     let share = blocks * block.rows;
     let mut shares = vec![0; scheme.n as usize * share];
-    let Scheme { n, r, z, ref counts } = scheme;
+    let Scheme { n, r, z, ref counts, .. } = scheme;
     let split = if unpadded { library::split } else { library::split_padded };
     split(n, r, z, counts, &message.bytes, &keys.bytes, &mut shares).map_err(|number| match number {
         8 => Failure::Refused(8, format!("it needs {}, and {keys}", counted(block.keys(blocks), "byte"))),
@@ -82,7 +82,8 @@ fn split(arguments: &Arguments) -> Done {
     let part = |party: u8| &shares[(party as usize - 1) * share..party as usize * share];
     let files: Vec<(OsString, &[u8])> = (1..=n).map(|party| (name(party), part(party))).collect();
     let output = Output::in_folder(&folder, &files)?;
-    let mut told = format!("{n} shares of {} are in {folder:?}, share-1 to share-{n}.\n", counted(share, "byte"));
+    let (bytes, used) = (counted(share, "byte"), scheme.used());
+    let mut told = format!("{n} shares of {bytes} are in {folder:?}, share-1 to share-{n}.\nThe scheme is {used}.\n");
     if unpadded {
         told += &format!("Keep the message's length, {length}: it is needed to open the message, ");
         told += "and the shares do not hold it.\n";
@@ -97,20 +98,20 @@ fn prefix(arguments: &Arguments) -> Done {
     let scheme = Scheme::of(arguments)?;
     let block = scheme.check()?;
     let share = read(share)?;
-    let Scheme { n, r, z, ref counts } = scheme;
+    let Scheme { n, r, z, ref counts, .. } = scheme;
     let answer = match form {
         Form::Padded => library::prefix_padded(n, r, z, counts, d, &share.bytes),
         Form::Told(length) => library::prefix(n, r, z, counts, length, d, &share.bytes),
     };
     let bytes = answer.map_err(|number| match (number, form) {
         (5, Form::Told(length)) => Failure::Refused(5, format!("--length is {length}")),
-        (9, _) => form.wrong_length(&block, block.rows, "a share", &share),
+        (9, _) => scheme.hinted(form.wrong_length(&block, block.rows, "a share", &share)),
         _ => Failure::Refused(number, format!("--readers is {d}, and the scheme is {scheme}")),
     })?;
     let prefix = &share.bytes[..bytes as usize];
     let output = Output::one_file(&place, prefix)?;
-    let told = format!("The prefix, {} of {}, is in {out:?}.\n", counted(prefix.len(), "byte"), share.bytes.len());
-    output.keep(&told)
+    let (bytes, whole, used) = (counted(prefix.len(), "byte"), share.bytes.len(), scheme.used_by_readers());
+    output.keep(&format!("The prefix, {bytes} of {whole}, is in {out:?}.\nThe scheme is {used}.\n"))
 }
 
 /// The parties and what they sent, in the order that the library wants: the parties rising.
@@ -144,7 +145,7 @@ fn check_each(block: &Block, form: Form, prefixes: &[(u8, Input)]) -> Done {
 
 /// The bytes used and the message, or the number of the refusal.
 fn open(scheme: &Scheme, block: &Block, form: Form, parties: &[u8], prefixes: &[u8]) -> Result<(u64, Vec<u8>), u64> {
-    let Scheme { n, r, z, ref counts } = *scheme;
+    let Scheme { n, r, z, ref counts, .. } = *scheme;
     if let Form::Told(length) = form {
         // A longer message is refused before its room is looked at, so that no number asks for too much.
         let mut message = vec![0; length.min(MAX_MESSAGE)];
@@ -188,13 +189,12 @@ fn reconstruct(arguments: &Arguments) -> Done {
     let answer = open(&scheme, &block, form, &parties, &joined.concat());
     // The library sees the prefixes joined: one too long and one too short by as much would pass there.
     if let Ok(_) | Err(9 | 11) = answer {
-        check_each(&block, form, &prefixes)?;
+        check_each(&block, form, &prefixes).map_err(|failure| scheme.hinted(failure))?;
     }
-    let (used, message) =
-        answer.map_err(|number| Failure::Refused(number, readers_detail(number, form, &parties, &scheme)))?;
+    let (used, message) = answer
+        .map_err(|number| scheme.hinted(Failure::Refused(number, readers_detail(number, form, &parties, &scheme))))?;
     let output = Output::one_file(&place, &message)?;
-    let (length, d, caution) = (counted(message.len(), "byte"), parties.len(), form.caution());
-    let told =
-        format!("The message, {length}, is in {out:?}; {used} bytes were fetched from {d} parties.\n{caution}\n");
-    output.keep(&told)
+    let (length, d) = (counted(message.len(), "byte"), parties.len());
+    let told = format!("The message, {length}, is in {out:?}; {used} bytes were fetched from {d} parties.\n");
+    output.keep(&format!("{told}The scheme is {}.\n{}\n", scheme.used_by_readers(), form.caution()))
 }

@@ -25,7 +25,7 @@ sharing splits a message into shares and opens it again from the beginnings of a
 
 pub fn all() -> String {
     let table: String = refusals().map(|(number, reason)| format!("{number:4}  {reason}\n")).collect();
-    let default = Scheme::default().in_a_row();
+    let [default, former] = [Scheme::default(), Scheme::former_default()].map(|scheme| scheme.in_a_row());
     format!(
         "\
 {COMMANDS}
@@ -33,6 +33,10 @@ A scheme has N parties. R of them may be absent, and Z may put their shares toge
 nothing but the message's length in blocks. The counts are the numbers of parties at which opening is
 cheap, falling, the last one N - R. S is all of it in a row: N,R,Z and the counts. Without a scheme
 it is {default}. The value of an option may also stand behind =, as in --readers=4.
+
+The default was another before, {former}, and nothing in a share tells its scheme. Shares that were stored
+without naming a scheme while it was that one are read with --scheme {former}: prefix --help and
+reconstruct --help say what happens otherwise.
 
 A message is padded before it is split, so that it knows its own end. Shares of the earlier form do not
 know it: split --unpadded writes them, and prefix and reconstruct are told the message's length, L.
@@ -67,8 +71,10 @@ bytes it takes, and for each count how many bytes of a block each party sends, a
   Z         how many may put their shares together and learn nothing, at least 1
   D1,D2..   the counts: numbers of parties to read from, falling, the last one N - R
 
-Spaces may stand for the commas, here and after --scheme.
-"
+Spaces may stand for the commas, here and after --scheme. The default before was {former}: shares
+that were stored in it are read with --scheme {former}.
+",
+        former = Scheme::former_default().in_a_row()
     )
 }
 
@@ -94,7 +100,8 @@ messages under the same keys a single party learns something of how they differ.
 }
 
 pub fn prefix() -> String {
-    "\
+    format!(
+        "\
 sharing prefix [--scheme N,R,Z,D1,D2..] [--length L] --readers D SHARE OUT
 
 Writes into OUT what a party sends when D parties are read from: the beginning of its whole share, the
@@ -102,12 +109,18 @@ file SHARE. D is one of the scheme's counts.
 
 --length L is for shares of the earlier form, which split --unpadded writes: L is the length of the
 message, and the share must have the length that goes with it.
-"
-    .to_string()
+
+A share that was stored while the default was {former} needs --scheme {former}. Without it, the
+prefix of a padded message's share has another length than it should, and nobody notices here. With --length
+the share is refused for its length, but for a message of at most 6 bytes.
+",
+        former = Scheme::former_default().in_a_row()
+    )
 }
 
 pub fn reconstruct() -> String {
-    "\
+    format!(
+        "\
 sharing reconstruct [--scheme N,R,Z,D1,D2..] [--length L] OUT PARTY=FILE PARTY=FILE ..
 
 Opens a message and writes it into OUT, without its padding. Each FILE is the prefix that the party of
@@ -123,8 +136,14 @@ then does not end as padding does: false bytes in other blocks always pass, and 
 So may a message of the earlier form that is opened without --length: where it ends in a byte 128, or in
 128 and zeros, what stands before that byte is taken for the whole message.
 With --length nothing is noticed, a wrong L included, as long as the lengths fit.
-"
-    .to_string()
+
+Shares that were stored while the default was {former} need --scheme {former}. Without it they
+are taken for shares of the default scheme. With --length nothing is refused then where the lengths fit, and
+without it nothing for every third length of message or more, since its end comes out as an end there too.
+What is written are other bytes, or pieces of the message.
+",
+        former = Scheme::former_default().in_a_row()
+    )
 }
 
 pub fn archive() -> String {

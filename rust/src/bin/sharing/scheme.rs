@@ -4,6 +4,7 @@ use crate::arguments::{byte_list, usage, Arguments};
 use crate::failure::Failure;
 use gilunavoi::library;
 use gilunavoi::limits::{DEFAULT_COUNTS, DEFAULT_N, DEFAULT_R, DEFAULT_Z};
+use gilunavoi::limits::{FORMER_DEFAULT_COUNTS, FORMER_DEFAULT_N, FORMER_DEFAULT_R, FORMER_DEFAULT_Z};
 use std::ffi::OsStr;
 use std::fmt;
 
@@ -12,6 +13,8 @@ pub struct Scheme {
     pub r: u8,
     pub z: u8,
     pub counts: Vec<u8>,
+    /// Nobody named it.
+    by_default: bool,
 }
 
 /// The lengths of an accepted scheme's block: m bytes in b rows.
@@ -24,17 +27,26 @@ pub struct Block {
 /// The scheme of the library's calls without one.
 impl Default for Scheme {
     fn default() -> Scheme {
-        Scheme { n: DEFAULT_N, r: DEFAULT_R, z: DEFAULT_Z, counts: DEFAULT_COUNTS.to_vec() }
+        Scheme { by_default: true, ..Scheme::named(DEFAULT_N, DEFAULT_R, DEFAULT_Z, &DEFAULT_COUNTS) }
     }
 }
 
 impl Scheme {
+    fn named(n: u8, r: u8, z: u8, counts: &[u8]) -> Scheme {
+        Scheme { n, r, z, counts: counts.to_vec(), by_default: false }
+    }
+
+    /// The default before, of which shares are stored.
+    pub fn former_default() -> Scheme {
+        Scheme::named(FORMER_DEFAULT_N, FORMER_DEFAULT_R, FORMER_DEFAULT_Z, &FORMER_DEFAULT_COUNTS)
+    }
+
     /// N, R, Z and the counts, in one word or in several; the default scheme where there is none.
     pub fn from_words<'a>(words: impl IntoIterator<Item = &'a OsStr>) -> Result<Scheme, Failure> {
         let lists = words.into_iter().map(byte_list).collect::<Result<Vec<_>, Failure>>()?;
         match lists.concat()[..] {
             [] => Ok(Scheme::default()),
-            [n, r, z, ref counts @ ..] => Ok(Scheme { n, r, z, counts: counts.to_vec() }),
+            [n, r, z, ref counts @ ..] => Ok(Scheme::named(n, r, z, counts)),
             _ => usage("a scheme is N, R, Z and the counts".to_string()),
         }
     }
@@ -46,6 +58,30 @@ impl Scheme {
     /// As it is written after `--scheme`.
     pub fn in_a_row(&self) -> String {
         in_a_row(&[&[self.n, self.r, self.z], &self.counts[..]].concat())
+    }
+
+    /// For a report: which scheme was used.
+    pub fn used(&self) -> String {
+        let default = if self.by_default { "the default, " } else { "" };
+        format!("{default}{}", self.in_a_row())
+    }
+
+    /// The same for who reads shares: those from before the default was this one do not tell it.
+    pub fn used_by_readers(&self) -> String {
+        let former = Scheme::former_default().in_a_row();
+        let hint = format!("; shares stored while that was {former} need --scheme {former}");
+        format!("{}{}", self.used(), if self.by_default { &hint } else { "" })
+    }
+
+    /// Points out the former default where nobody named a scheme and the default may be what is wrong: a length does not fit,
+    /// or there is no end.
+    pub fn hinted(&self, failure: Failure) -> Failure {
+        match failure {
+            Failure::Refused(number @ (9 | 11), detail) if self.by_default => {
+                Failure::Refused(number, format!("{detail}\nthe scheme is {}", self.used_by_readers()))
+            }
+            _ => failure,
+        }
     }
 
     /// Asks the library whether the scheme is accepted.
