@@ -178,8 +178,7 @@ fn padded_messages_that_the_default_opens_too() {
 }
 
 const NAMED: &str = "--scheme 5,2,1,5,4,3 ";
-const HINT: &str =
-    "the scheme is the default, 5,2,2,5,4,3; shares stored while that was 5,2,1,5,4,3 need --scheme 5,2,1,5,4,3";
+const HINT: &str = "the scheme is the default, 5,2,2,5,4,3; shares of the former default need --scheme 5,2,1,5,4,3";
 
 fn stored_files(test: &str) -> Folder {
     let folder = Folder::new(test);
@@ -231,7 +230,7 @@ fn the_program_without_the_former_default() {
     ] {
         folder.refuses(&line, number, &format!("\n{HINT}\n"));
         let named = line.replacen(' ', " --scheme 5,2,2,5,4,3 ", 1);
-        assert!(!folder.fails(&named, 1).contains("need --scheme"), "it was named");
+        assert!(!folder.fails(&named, 1).contains("former default"), "it was named");
     }
     let report = format!("\nT{}.\n", &HINT[1..]);
     for (name, options, bytes) in
@@ -245,7 +244,8 @@ fn the_program_without_the_former_default() {
     // A prefix for 5 readers has 3 bytes of each of 3 blocks, and 2 in the default scheme.
     let said = folder.says("prefix --readers 5 letter-padded/share-1 out");
     assert!(said.starts_with("The prefix, 6 bytes of 18, is in \"out\".\n") && said.contains(&report), "{said}");
-    for command in ["", "scheme ", "prefix ", "reconstruct "] {
+    for command in ["", "prefix ", "reconstruct "] {
         assert!(folder.says(&format!("{command}--help")).contains("--scheme 5,2,1,5,4,3"), "{command}");
     }
+    assert!(folder.says("scheme --help").contains("The former default was 5,2,1,5,4,3."));
 }

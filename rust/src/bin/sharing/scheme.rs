@@ -68,8 +68,7 @@ impl Scheme {
 
     /// The same for who reads shares: those from before the default was this one do not tell it.
     pub fn used_by_readers(&self) -> String {
-        let former = Scheme::former_default().in_a_row();
-        let hint = format!("; shares stored while that was {former} need --scheme {former}");
+        let hint = format!("; shares of the former default need --scheme {}", Scheme::former_default().in_a_row());
         format!("{}{}", self.used(), if self.by_default { &hint } else { "" })
     }
 
