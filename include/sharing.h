@@ -23,10 +23,10 @@
  * the scheme n 5, r 2, z 2, counts 5, 4, 3.
  *
  * The default was another before: n 5, r 2, z 1, counts 5, 4, 3. Nothing in a share tells its scheme.
- * Shares that were stored by the `_default` calls of that time are for the calls with a scheme, with
- * 5, 2, 1 and these counts. The `_default` calls take them for shares of the new default: in either form
- * and for many lengths of message they refuse nothing, and what comes out are other bytes, or pieces of
- * the message. docs/former-default.md has the details.
+ * Shares that the `_default` calls of that time wrote are for the calls with a scheme, with 5, 2, 1 and
+ * these counts. The `_default` calls take them for shares of the new default: for many lengths of a padded
+ * message, and in the earlier form where the lengths fit, nothing is refused, and what comes out are other
+ * bytes, or pieces of the message. docs/former-default.md has the lengths.
  *
  * Every call returns, whatever numbers, bytes and lengths it is given; no pointer may be NULL, not even
  * beside the length 0. `refusal` is 0 when it was accepted; otherwise it is the first of these numbers

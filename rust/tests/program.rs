@@ -1,6 +1,6 @@
 //! The program `sharing`, run as its users run it, in a folder of its own.
 
-use folder::Folder;
+use folder::{Folder, FORMER_DEFAULT};
 use gilunavoi::library;
 use gilunavoi::limits::{DEFAULT_N, DEFAULT_Z, MAX_MESSAGE};
 use std::fs;
@@ -14,9 +14,6 @@ impl Folder {
         (1..=5).flat_map(|party| self.bytes(&format!("{folder}/share-{party}"))).collect()
     }
 }
-
-/// The words that name the former default.
-const FORMER: &str = "--scheme 5,2,1,5,4,3 ";
 
 /// The words of a command line that ask for a form of message: of `split`, and of the other two.
 fn padded(_: usize) -> (String, String) {
@@ -77,7 +74,7 @@ fn round_trips() {
     let readings: [&[usize]; 4] = [&[1, 2, 3, 4, 5], &[5, 1, 4, 2], &[2, 4, 5], &[3, 2, 1]];
     let default = [(100, 204, 204), (0, 12, 0), (5, 12, 12), (6, 24, 12), (MAX_MESSAGE, 32772, 32772)];
     let former = [(100, 54, 54), (0, 6, 0), (11, 6, 6), (12, 12, 6), (MAX_MESSAGE, 8196, 8196)];
-    for (scheme, lengths) in [("", default), (FORMER, former)] {
+    for (scheme, lengths) in [("", default), (FORMER_DEFAULT, former)] {
         for (length, keys, earlier_keys) in lengths {
             round_trip(&folder, padded, scheme, length, keys, &readings);
             round_trip(&folder, unpadded, scheme, length, earlier_keys, &readings);
@@ -135,7 +132,7 @@ fn the_two_forms_mixed_up() {
     // Shares of the earlier form without their length.
     for name in ["24", "25"] {
         let line = format!("reconstruct out {}", reading(&format!("earlier-{name}")));
-        folder.refuses(&line, 11, "the parties are [1, 2, 5], and the scheme is N 5, ");
+        folder.refuses(&line, 11, "\nthe parties are [1, 2, 5]\n");
         folder.refuses(&line, 11, need);
     }
     folder.refuses("prefix --readers 3 earlier-0/share-1 out", 9, need);
@@ -209,7 +206,8 @@ fn refusals_of_split() {
         let needs = format!("needs {needed} bytes, and");
         folder.refuses(&format!("split {unpadded}long keys shares"), 5, &format!("\"long\" has {long} bytes"));
         folder.refuses(&format!("split {unpadded}endless keys shares"), 5, "\"endless\" has more than 1048576 bytes");
-        folder.refuses(&format!("split {unpadded}message short shares"), 8, &format!("{needs} \"short\" has 17 bytes"));
+        let short = format!("{needs} \"short\" has 17 bytes\nthe scheme is the default, 5,2,2,5,4,3\n");
+        folder.refuses(&format!("split {unpadded}message short shares"), 8, &short);
         let endless = format!("{needs} \"endless\" has more than 1048576 bytes");
         folder.refuses(&format!("split {unpadded}message endless shares"), 8, &endless);
     }
@@ -310,7 +308,7 @@ fn no_end() {
         ("", "a-shares/short", "a-shares/short-3"),
     ] {
         let line = of_three(options, files, last);
-        folder.refuses(&line, 11, "the parties are [1, 2, 3], and the scheme is N ");
+        folder.refuses(&line, 11, "\nthe parties are [1, 2, 3]\n");
         folder.refuses(&line, 11, "\nevery prefix must have been cut for 3 readers, and shares of the earlier form, ");
     }
     folder.says(&of_three("", "a-shares/share", "a-shares/share-3"));
@@ -319,25 +317,25 @@ fn no_end() {
 
 /// The end is all that is looked at, and it is said that the rest may be wrong. Here it is: a false byte of another block;
 /// prefixes that were cut for more readers, and whole shares where prefixes are needed (read for another number of
-/// parties, the rows of these two messages end in 128 too); shares of the earlier form whose message ends in a byte 128.
-/// The two messages were found for the scheme of the former default, in which each has two blocks.
-#[test]
-fn what_goes_unnoticed() {
-    let folder = Folder::new("unnoticed");
-    shares_and_prefixes(&folder, FORMER, 12, "a", b"Call the client back.");
-    shares_and_prefixes(&folder, FORMER, 12, "b", b"Call the client at noon");
+/// parties, the rows of messages of these lengths end in 128 too); shares of the earlier form whose message ends in a
+/// byte 128. Of the messages a and b the keys that they need in this scheme, and the lengths that are opened at last.
+fn unnoticed(folder: &Folder, scheme: &str, a: (&str, usize, usize), b: (&str, usize, usize)) {
+    for (name, (message, keys, _)) in [("a", a), ("b", b)] {
+        shares_and_prefixes(folder, scheme, keys, name, message.as_bytes());
+    }
     let mut share = folder.bytes("a-shares/share-3");
     share[0] ^= 1;
     fs::write(folder.0.join("false"), share).expect("a written file");
     let five: String = (1..=5).map(|party| format!(" {party}=b-shares/share-{party}")).collect();
-    // In UTF-8 its last letter ends in a byte 128.
+    // In UTF-8 its last letter ends in a byte 128. It needs as many keys as a.
     fs::write(folder.0.join("c"), "Rendez-vous À").expect("a written file");
-    folder.says(&format!("split {FORMER}--unpadded c keys c-shares"));
+    folder.write("keys", a.1);
+    folder.says(&format!("split {scheme}--unpadded c keys c-shares"));
     for (line, message, length) in [
-        (of_three(FORMER, "a-shares/share", "false"), "a", 21),
-        (of_three(FORMER, "a-shares/short", "a-shares/short-3"), "a", 11),
-        (format!("reconstruct {FORMER}out{five}"), "b", 45),
-        (of_three(FORMER, "c-shares/share", "c-shares/share-3"), "c", 13),
+        (of_three(scheme, "a-shares/share", "false"), "a", a.0.len()),
+        (of_three(scheme, "a-shares/short", "a-shares/short-3"), "a", a.2),
+        (format!("reconstruct {scheme}out{five}"), "b", b.2),
+        (of_three(scheme, "c-shares/share", "c-shares/share-3"), "c", 13),
     ] {
         let said = folder.says(&line);
         assert!(said.contains("form or number of readers can go unnoticed.\n"), "{said}");
@@ -347,18 +345,40 @@ fn what_goes_unnoticed() {
     }
 }
 
-/// The joined prefixes have the right length, and yet two of them are not what a party sends.
+#[test]
+fn what_goes_unnoticed() {
+    unnoticed(&Folder::new("unnoticed"), "", ("Call the client", 36, 5), ("Call the client at noon", 48, 69));
+}
+
+#[test]
+fn what_goes_unnoticed_in_the_former_default() {
+    let folder = Folder::new("unnoticed-former");
+    unnoticed(&folder, FORMER_DEFAULT, ("Call the client back.", 12, 11), ("Call the client at noon", 12, 45));
+}
+
+/// The joined prefixes have the right length, and yet two of them are not what a party sends. With a message of 25 bytes
+/// the right ones, a and d, are for 4 readers; b is a byte too long and c too short, e and f are so by a block.
+fn too_long_and_too_short(folder: &Folder, scheme: &str, block: usize, blocks: usize, most: usize) {
+    let right = block * blocks;
+    let lengths = [right, right + 1, right - 1, right, right + block, right - block];
+    for (name, length) in ["a", "b", "c", "d", "e", "f"].iter().zip(lengths) {
+        folder.write(name, length);
+    }
+    let told = format!("reconstruct {scheme}--length 25 out");
+    let byte_more = format!("and \"b\" has {} bytes", right + 1);
+    folder.refuses(&format!("{told} 1=a 2=b 3=c 4=d"), 9, &format!("has {right} bytes, {byte_more}"));
+    let padded = format!("reconstruct {scheme}out");
+    folder.refuses(&format!("{padded} 1=a 2=b 3=c 4=d"), 9, &format!("{most} blocks, {byte_more}"));
+    let block_more = format!("and \"e\" has {} bytes", right + block);
+    folder.refuses(&format!("{told} 1=a 2=d 3=e 4=f"), 9, &format!("has {right} bytes, {block_more}"));
+    folder.refuses(&format!("{padded} 1=a 2=d 3=e 4=f"), 9, &format!("but \"d\" has {right} bytes {block_more}"));
+}
+
 #[test]
 fn one_prefix_too_long_and_one_too_short() {
     let folder = Folder::new("odd");
-    for (name, length) in [("a", 15), ("b", 16), ("c", 14), ("d", 15), ("e", 18), ("f", 12)] {
-        folder.write(name, length);
-    }
-    folder.refuses("reconstruct --length 25 out 1=a 2=b 3=c 4=d", 9, "has 15 bytes, and \"b\" has 16 bytes");
-    folder.refuses("reconstruct out 1=a 2=b 3=c 4=d", 9, "2731 blocks, and \"b\" has 16 bytes");
-    // One block more and one less.
-    folder.refuses("reconstruct --length 25 out 1=a 2=d 3=e 4=f", 9, "has 15 bytes, and \"e\" has 18 bytes");
-    folder.refuses("reconstruct out 1=a 2=d 3=e 4=f", 9, "but \"d\" has 15 bytes and \"e\" has 18 bytes");
+    too_long_and_too_short(&folder, "", 3, 5, 2731);
+    too_long_and_too_short(&folder, FORMER_DEFAULT, 4, 3, 1366);
 }
 
 #[test]

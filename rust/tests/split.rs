@@ -58,6 +58,7 @@ fn every_prefix_of_every_scheme() {
 #[test]
 fn the_default_scheme() {
     let mut random = Random::new(6);
+    // Around the ends of one, two and four batches of 64 blocks of 6 bytes, and of the longest message.
     let ends = [1535, 1536, 1537, MAX_MESSAGE - 4, MAX_MESSAGE - 1, MAX_MESSAGE];
     let lengths: Vec<usize> = (0..=100).chain(376..=392).chain(760..=780).chain(ends).collect();
     for &length in &lengths {

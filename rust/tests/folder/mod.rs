@@ -10,6 +10,10 @@ extern "C" {
     fn kill(process: i32, signal: i32) -> i32;
 }
 
+/// The words of a command line that name the former default. Not every test that has a folder needs them.
+#[allow(dead_code)]
+pub const FORMER_DEFAULT: &str = "--scheme 5,2,1,5,4,3 ";
+
 /// A folder that is removed at the end.
 pub struct Folder(pub PathBuf);
 

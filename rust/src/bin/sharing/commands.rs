@@ -75,7 +75,10 @@ fn split(arguments: &Arguments) -> Done {
     let Scheme { n, r, z, ref counts, .. } = scheme;
     let split = if unpadded { library::split } else { library::split_padded };
     split(n, r, z, counts, &message.bytes, &keys.bytes, &mut shares).map_err(|number| match number {
-        8 => Failure::Refused(8, format!("it needs {}, and {keys}", counted(block.keys(blocks), "byte"))),
+        8 => {
+            let (needed, used) = (counted(block.keys(blocks), "byte"), scheme.used());
+            Failure::Refused(8, format!("it needs {needed}, and {keys}\nthe scheme is {used}"))
+        }
         _ => Failure::Refused(number, message.to_string()),
     })?;
     let name = |party: u8| OsString::from(format!("share-{party}"));
@@ -105,7 +108,7 @@ fn prefix(arguments: &Arguments) -> Done {
     };
     let bytes = answer.map_err(|number| match (number, form) {
         (5, Form::Told(length)) => Failure::Refused(5, format!("--length is {length}")),
-        (9, _) => scheme.hinted(form.wrong_length(&block, block.rows, "a share", &share)),
+        (9, _) => scheme.suspected(form.wrong_length(&block, block.rows, "a share", &share)),
         _ => Failure::Refused(number, format!("--readers is {d}, and the scheme is {scheme}")),
     })?;
     let prefix = &share.bytes[..bytes as usize];
@@ -164,14 +167,13 @@ fn open(scheme: &Scheme, block: &Block, form: Form, parties: &[u8], prefixes: &[
 
 /// What was given where the opener refused.
 fn readers_detail(number: u64, form: Form, parties: &[u8], scheme: &Scheme) -> String {
-    let readers = format!("the parties are {parties:?}, and the scheme is {scheme}");
     match (number, form) {
         (5, Form::Told(length)) => format!("--length is {length}"),
         (11, _) => {
-            let d = parties.len();
-            format!("{readers}\nevery prefix must have been cut for {d} readers, and {}", form.hint())
+            let (d, hint) = (parties.len(), form.hint());
+            format!("the parties are {parties:?}\nevery prefix must have been cut for {d} readers, and {hint}")
         }
-        _ => readers,
+        _ => format!("the parties are {parties:?}, and the scheme is {scheme}"),
     }
 }
 
@@ -189,10 +191,11 @@ fn reconstruct(arguments: &Arguments) -> Done {
     let answer = open(&scheme, &block, form, &parties, &joined.concat());
     // The library sees the prefixes joined: one too long and one too short by as much would pass there.
     if let Ok(_) | Err(9 | 11) = answer {
-        check_each(&block, form, &prefixes).map_err(|failure| scheme.hinted(failure))?;
+        check_each(&block, form, &prefixes).map_err(|failure| scheme.suspected(failure))?;
     }
-    let (used, message) = answer
-        .map_err(|number| scheme.hinted(Failure::Refused(number, readers_detail(number, form, &parties, &scheme))))?;
+    let (used, message) = answer.map_err(|number| {
+        scheme.suspected(Failure::Refused(number, readers_detail(number, form, &parties, &scheme)))
+    })?;
     let output = Output::one_file(&place, &message)?;
     let (length, d) = (counted(message.len(), "byte"), parties.len());
     let told = format!("The message, {length}, is in {out:?}; {used} bytes were fetched from {d} parties.\n");

@@ -34,9 +34,9 @@ nothing but the message's length in blocks. The counts are the numbers of partie
 cheap, falling, the last one N - R. S is all of it in a row: N,R,Z and the counts. Without a scheme
 it is {default}. The value of an option may also stand behind =, as in --readers=4.
 
-The default was another before, {former}, and nothing in a share tells its scheme. Shares of that
-former default are read with --scheme {former}; prefix --help and reconstruct --help say what
-happens otherwise.
+The default was another before, {former}, and nothing in a share tells its scheme. Shares that were
+split then without a scheme, those of the former default, are read with --scheme {former};
+prefix --help and reconstruct --help say what happens otherwise.
 
 A message is padded before it is split, so that it knows its own end. Shares of the earlier form do not
 know it: split --unpadded writes them, and prefix and reconstruct are told the message's length, L.
@@ -109,9 +109,10 @@ file SHARE. D is one of the scheme's counts.
 --length L is for shares of the earlier form, which split --unpadded writes: L is the length of the
 message, and the share must have the length that goes with it.
 
-A share that was stored while the default was another, the former one, needs --scheme {former}.
-Without it the prefix of a padded message's share is cut too short where 4 or 5 parties are read from, and
-nothing is refused. With --length the share is refused for its own length, unless L is at most 6.
+A share of the former default, one that was split without a scheme while that was {former}, needs
+--scheme {former}. Without it the prefix of a padded message's share is cut too short where 4 or 5
+parties are read from, and nothing is refused. With --length the share is refused for its own length, unless
+L is at most 6.
 ",
         former = Scheme::former_default().in_a_row()
     )
@@ -136,10 +137,10 @@ So may a message of the earlier form that is opened without --length: where it e
 128 and zeros, what stands before that byte is taken for the whole message.
 With --length nothing is noticed, a wrong L included, as long as the lengths fit.
 
-Shares that were stored while the default was another, the former one, need --scheme {former}.
-Without it they are taken for shares of the default scheme. With --length nothing is refused then where the
-lengths fit, and without it nothing for a third of all lengths of message and more: its end comes out as an
-end there too. What is written are other bytes, or pieces of the message.
+Shares of the former default, those that were split without a scheme while that was {former}, need
+--scheme {former}. Without it they are taken for shares of the default scheme, and other bytes, or
+pieces of the message, may be written without a refusal: with --length where the lengths fit, and without it
+where the message's end comes out as an end in that scheme too, as it does for many lengths.
 ",
         former = Scheme::former_default().in_a_row()
     )

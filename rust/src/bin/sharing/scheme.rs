@@ -72,12 +72,13 @@ impl Scheme {
         format!("{}{}", self.used(), if self.by_default { &hint } else { "" })
     }
 
-    /// Points out the former default where nobody named a scheme and the default may be what is wrong: a length does not fit,
-    /// or there is no end.
-    pub fn hinted(&self, failure: Failure) -> Failure {
+    /// Adds to a refusal for a length, or for an end that is none, that the scheme may be what is wrong.
+    pub fn suspected(&self, failure: Failure) -> Failure {
         match failure {
-            Failure::Refused(number @ (9 | 11), detail) if self.by_default => {
-                Failure::Refused(number, format!("{detail}\nthe scheme is {}", self.used_by_readers()))
+            Failure::Refused(number @ (9 | 11), detail) => {
+                let same = ": shares have to be split, and prefixes cut, in the same one";
+                let same = if self.by_default { "" } else { same };
+                Failure::Refused(number, format!("{detail}\nthe scheme is {}{same}", self.used_by_readers()))
             }
             _ => failure,
         }
