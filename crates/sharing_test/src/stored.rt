@@ -1,5 +1,5 @@
 // The five bytes "Noon.", split while the default was the former one (keys 29 72 bb 04 4d 96 hex), as the shares were stored.
-// Opened in the former default they come back. The default scheme opens them too, to other bytes, and refuses nothing.
+// Opened in the former default they come back. The default scheme opens whole shares too, to other bytes, and refuses nothing.
 use crate::former;
 use crate::openings::print;
 use crate::padded::show_answer;
