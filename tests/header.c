@@ -165,15 +165,16 @@ static void padded_by_default(void) {
  * in the earlier form and padded. It is named to open them; the default scheme opens them too, to other bytes.
  */
 static const uint8_t former_counts[] = {5, 4, 3}, three_parties[] = {1, 2, 3};
+#define FORMER_DEFAULT 5, 2, 1, former_counts, 3
 
 static void stored_shares(void) {
     const uint8_t stored[] = {9, 92, 187, 106, 34, 150, 253, 46, 187, 216, 147, 150, 164, 0, 187, 182, 252, 150};
     uint8_t opened[5];
-    sharing_answer a = sharing_prefix(5, 2, 1, former_counts, 3, 5, 5, stored, 6);
+    sharing_answer a = sharing_prefix(FORMER_DEFAULT, 5, 5, stored, 6);
     EXPECT(a.refusal == 0 && a.value == 3);
     a = sharing_prefix_default(5, 5, stored, 6);
     EXPECT(a.refusal == 0 && a.value == 2);
-    a = sharing_reconstruct(5, 2, 1, former_counts, 3, 5, three_parties, 3, stored, 18, opened, 5);
+    a = sharing_reconstruct(FORMER_DEFAULT, 5, three_parties, 3, stored, 18, opened, 5);
     EXPECT(a.refusal == 0 && a.value == 18 && memcmp(opened, "Noon.", 5) == 0);
     a = sharing_reconstruct_default(5, three_parties, 3, stored, 18, opened, 5);
     EXPECT(a.refusal == 0 && a.value == 18 && memcmp(opened, "~\0\0\0\0", 5) == 0);
@@ -182,10 +183,9 @@ static void stored_shares(void) {
 static void stored_padded_shares(void) {
     const uint8_t stored[] = {9, 220, 187, 106, 34, 150, 253, 24, 187, 216, 147, 150, 164, 182, 187, 182, 252, 150};
     uint8_t opened[12];
-    sharing_answer a = sharing_prefix_padded(5, 2, 1, former_counts, 3, 5, stored, 6);
+    sharing_answer a = sharing_prefix_padded(FORMER_DEFAULT, 5, stored, 6);
     EXPECT(a.refusal == 0 && a.value == 3);
-    sharing_padded_answer p =
-        sharing_reconstruct_padded(5, 2, 1, former_counts, 3, three_parties, 3, stored, 18, opened, 12);
+    sharing_padded_answer p = sharing_reconstruct_padded(FORMER_DEFAULT, three_parties, 3, stored, 18, opened, 12);
     EXPECT(p.refusal == 0 && p.used == 18 && p.length == 5 && memcmp(opened, "Noon.", 5) == 0);
     p = sharing_reconstruct_padded_default(three_parties, 3, stored, 18, opened, 6);
     EXPECT(p.refusal == 0 && p.used == 18 && p.length == 3 && memcmp(opened, "~\0", 3) == 0);

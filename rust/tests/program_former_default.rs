@@ -63,7 +63,7 @@ fn the_program_without_the_former_default() {
         ("prefix --length 33 --readers 5 letter-earlier/share-1 out".to_string(), 9),
     ] {
         folder.refuses(&line, number, &format!("\n{HINT}\n"));
-        let same = "\nthe scheme is 5,2,2,5,4,3: shares have to be split, and prefixes cut, in the same one\n";
+        let same = "\nthe scheme is 5,2,2,5,4,3: shares have to be split, and prefixes cut, in it too\n";
         folder.refuses(&line.replacen(' ', " --scheme 5,2,2,5,4,3 ", 1), number, same);
     }
     // Where the scheme is not in doubt, the former one is not pointed out.

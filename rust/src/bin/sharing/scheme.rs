@@ -76,8 +76,7 @@ impl Scheme {
     pub fn suspected(&self, failure: Failure) -> Failure {
         match failure {
             Failure::Refused(number @ (9 | 11), detail) => {
-                let same = ": shares have to be split, and prefixes cut, in the same one";
-                let same = if self.by_default { "" } else { same };
+                let same = if self.by_default { "" } else { ": shares have to be split, and prefixes cut, in it too" };
                 Failure::Refused(number, format!("{detail}\nthe scheme is {}{same}", self.used_by_readers()))
             }
             _ => failure,
