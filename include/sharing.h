@@ -30,7 +30,8 @@
  *
  * Every call returns, whatever numbers, bytes and lengths it is given; no pointer may be NULL, not even
  * beside the length 0. `refusal` is 0 when it was accepted; otherwise it is the first of these numbers
- * that applies (archive_write alone looks at 10 last), every other field is 0, and nothing was written:
+ * that applies (archive_write alone looks at 10 last), every other field is 0 but for `tried` beside
+ * refusal 4, and nothing was written:
  *
  *    1  n is below 2 or above 16
  *    2  z is 0, or r + z is n or more
@@ -82,6 +83,17 @@ typedef struct {
     uint64_t rows;
 } sharing_scheme;
 
+/*
+ * The same, and how many multiples of the first d - z were tried in the search for m. This number is
+ * there also beside refusal 4.
+ */
+typedef struct {
+    uint64_t refusal;
+    uint64_t block;
+    uint64_t rows;
+    uint64_t tried;
+} sharing_tried_scheme;
+
 /* What `value` is, each call says. */
 typedef struct {
     uint64_t refusal;
@@ -106,6 +118,17 @@ sharing_scheme sharing_check(uint8_t n, uint8_t r, uint8_t z, const uint8_t *cou
 
 /* The same of the default scheme, which is accepted: 6 and 6. */
 sharing_scheme sharing_check_default(void);
+
+/*
+ * The same check, and how many numbers it tried for m: the multiples of the first d - z, rising, up to m.
+ * So `tried` is m / (d - z) of the first count where the scheme is accepted, 840 / (d - z) of the first
+ * count (rounded down) on refusal 4, and 0 on refusals 1 to 3.
+ */
+sharing_tried_scheme sharing_check_tried(
+    uint8_t n, uint8_t r, uint8_t z, const uint8_t *counts, size_t counts_length);
+
+/* The same of the default scheme: 6, 6, and 2 tried. */
+sharing_tried_scheme sharing_check_tried_default(void);
 
 /*
  * Splits a message, which is padded: writes the n shares of N x b bytes into `out`, one after another,

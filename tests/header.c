@@ -29,7 +29,7 @@ static const uint8_t four[] = {1, 2, 4, 5};
 
 static void sizes(void) {
     EXPECT(sizeof(sharing_scheme) == 24 && sizeof(sharing_answer) == 16 && sizeof(sharing_basis_answer) == 264);
-    EXPECT(sizeof(sharing_padded_answer) == 24 && sizeof(archive_entry_answer) == 24);
+    EXPECT(sizeof(sharing_padded_answer) == 24 && sizeof(archive_entry_answer) == 24 && sizeof(sharing_tried_scheme) == 32);
     EXPECT(sizeof ((sharing_basis_answer *)0)->weights == 256);
 }
 
@@ -50,6 +50,14 @@ static void schemes(void) {
     EXPECT(s.refusal == 0 && s.block == 6 && s.rows == 3);
     s = sharing_check_default();
     EXPECT(s.refusal == 0 && s.block == 6 && s.rows == 6);
+    sharing_tried_scheme t = sharing_check_tried(9, 3, 1, long_block, sizeof long_block);
+    EXPECT(t.refusal == 0 && t.block == 840 && t.rows == 168 && t.tried == 105);
+    t = sharing_check_tried(10, 4, 1, too_long, sizeof too_long);
+    EXPECT(t.refusal == 4 && t.block == 0 && t.rows == 0 && t.tried == 93);
+    t = sharing_check_tried(10, 5, 1, too_long, sizeof too_long);
+    EXPECT(t.refusal == 3 && t.block == 0 && t.rows == 0 && t.tried == 0);
+    t = sharing_check_tried_default();
+    EXPECT(t.refusal == 0 && t.block == 6 && t.rows == 6 && t.tried == 2);
 }
 
 static void splits(void) {

@@ -1,5 +1,8 @@
 //! What splitting and reconstructing cost: the proved library in both forms of message, an obvious program with tables, and
-//! libgfshare where it is installed; and what archives cost, beside copying. All take turns in one process.
+//! libgfshare where it is installed; and what archives cost, beside copying. All take turns in one process. What the check
+//! of a scheme costs comes last, and alone with the argument `check`:
+//!
+//!     cargo bench --offline --manifest-path rust/Cargo.toml --bench speed -- check
 
 use gilunavoi::cases::{parties, Call, Form, Scheme, FORMS};
 use gilunavoi::limits::MAX_MESSAGE;
@@ -13,6 +16,8 @@ use tables::Tables;
 
 #[path = "speed/archive.rs"]
 mod archive;
+#[path = "speed/check.rs"]
+mod check;
 #[cfg(gfshare)]
 #[path = "speed/gfshare.rs"]
 mod gfshare;
@@ -165,6 +170,10 @@ faster than libgfshare
 
 fn main() {
     let mut random = Random::new(1);
+    // Cargo adds an argument of its own.
+    if std::env::args().any(|argument| argument == "check") {
+        return print!("{}", check::table(&mut random));
+    }
     let mut all: Vec<Task> = Vec::new();
     for length in [1, 100, 1 << 10, MAX_MESSAGE] {
         let first = all.len();
@@ -195,4 +204,5 @@ fn main() {
     println!("\nhow the cost grows, microseconds a call, best turns: split / reconstruct for the lowest count");
     series.iter().for_each(|series| println!("{}", series.line()));
     print!("\n{}", archive::table(&archives));
+    print!("\n{}", check::table(&mut random));
 }

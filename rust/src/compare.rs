@@ -57,11 +57,14 @@ fn written<Value: Copy + Debug + PartialEq>(
     assert!(buffer == after, "bytes of the output or around it, {call:?}");
 }
 
+/// Both forms of the check: the one that also answers how many multiples were tried, and the one that does not.
 pub fn check(s: &Scheme) -> Agreed {
-    let expected = reference::check(s.n, s.r, s.z, &s.counts);
+    let (expected, tried) = reference::check_tried(s.n, s.r, s.z, &s.counts);
     assert_eq!(library::check(s.n, s.r, s.z, &s.counts), expected, "{s:?}");
+    assert_eq!(library::check_tried(s.n, s.r, s.z, &s.counts), (expected, tried), "{s:?}");
     if s.is_default() {
         assert_eq!(library::check_default(), expected);
+        assert_eq!(library::check_tried_default(), (expected, tried));
     }
     expected.map(|_| ())
 }

@@ -26,6 +26,14 @@ fn checked(answer: boundary::SharingScheme) -> Checked {
     unless_refused(answer.refusal, (answer.block, answer.rows), (0, 0))
 }
 
+/// What the check answers, and how many multiples of the first d - z were tried in the search for m. This number stands
+/// beside a refusal too; it is 0 on refusals 1 to 3, which come before the search.
+pub type CheckedTried = (Checked, u64);
+
+fn checked_tried(answer: boundary::SharingTriedScheme) -> CheckedTried {
+    (unless_refused(answer.refusal, (answer.block, answer.rows), (0, 0)), answer.tried)
+}
+
 /// The value that a call answers, or the number of its refusal.
 pub type Answer = Result<u64, u64>;
 
@@ -63,6 +71,14 @@ pub fn check(n: u8, r: u8, z: u8, counts: &[u8]) -> Checked {
 
 pub fn check_default() -> Checked {
     checked(unsafe { boundary::sharing_check_default() })
+}
+
+pub fn check_tried(n: u8, r: u8, z: u8, counts: &[u8]) -> CheckedTried {
+    checked_tried(unsafe { boundary::sharing_check_tried(n, r, z, counts.as_ptr(), counts.len()) })
+}
+
+pub fn check_tried_default() -> CheckedTried {
+    checked_tried(unsafe { boundary::sharing_check_tried_default() })
 }
 
 /// Splits by the call of one of the two forms of message.

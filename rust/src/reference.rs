@@ -1,8 +1,8 @@
 //! The rules of the scheme, written from their document alone and by other means than the proved
 //! library: sums and products bit by bit, inverses by trial, the block length by Euclid's algorithm,
-//! rows by their literal lists, values as sums of powers, weights and messages by elimination, the number
-//! of blocks in a share of a padded message by trial, the end of such a message from the back. Speed is no
-//! aim.
+//! the multiples up to it out of all numbers, rows by their literal lists, values as sums of powers,
+//! weights and messages by elimination, the number of blocks in a share of a padded message by trial, the
+//! end of such a message from the back. Speed is no aim.
 
 use std::sync::OnceLock;
 
@@ -82,6 +82,20 @@ pub fn check(n: u8, r: u8, z: u8, counts: &[u8]) -> Result<(u64, u64), u64> {
         return Err(4);
     }
     Ok((m, m / (n - r - z) as u64))
+}
+
+/// The same, and how many multiples of the first d - z are tried in the search for m, which takes them from the lowest on
+/// and ends at m, or at the limit where m is above it. They are counted among all numbers up to there.
+pub fn check_tried(n: u8, r: u8, z: u8, counts: &[u8]) -> (Result<(u64, u64), u64>, u64) {
+    let checked = check(n, r, z, counts);
+    let last = match checked {
+        Ok((m, _)) => m,
+        Err(4) => LONGEST_BLOCK,
+        // No search.
+        Err(_) => 0,
+    };
+    let tried = (1..=last).filter(|number| number % (counts[0] - z) as u64 == 0).count();
+    (checked, tried as u64)
 }
 
 /// Refusals, in the order in which the places are visited: the first that applies is the answer.

@@ -1,4 +1,4 @@
-//! The check of a scheme against the other implementation.
+//! The check of a scheme against the other implementation, in both forms: with and without how many multiples were tried.
 
 use gilunavoi::cases::{falling_lists, Scheme, BAD_COUNTS};
 use gilunavoi::compare::check;
@@ -6,17 +6,15 @@ use gilunavoi::library;
 use gilunavoi::limits::*;
 use gilunavoi::random::Random;
 
-/// Counts of how many schemes were checked and accepted.
+/// How many schemes were accepted, and how many were refused with 1, 2, 3 and 4.
 #[derive(Default, Debug)]
 struct Tally {
-    schemes: usize,
-    accepted: usize,
+    outcomes: [usize; 5],
 }
 
 impl Tally {
     fn check(&mut self, scheme: &Scheme) {
-        self.schemes += 1;
-        self.accepted += check(scheme).is_ok() as usize;
+        self.outcomes[check(scheme).err().unwrap_or(0) as usize] += 1;
     }
 }
 
@@ -24,11 +22,26 @@ fn scheme(n: u8, r: u8, z: u8, counts: Vec<u8>) -> Scheme {
     Scheme { n, r, z, counts, m: 0, b: 0 }
 }
 
+/// Every falling list of numbers from 1 to 11, the empty one and those that are too long among them, and each of them with
+/// one number put in somewhere, which is a fault more often than not.
+fn lists(random: &mut Random) -> Vec<Vec<u8>> {
+    let lists = (0..1 << 11).flat_map(|chosen: u32| {
+        let falling: Vec<u8> = (1..=11).rev().filter(|d| chosen >> (d - 1) & 1 == 1).collect();
+        let mut longer = falling.clone();
+        longer.insert(random.below(longer.len() + 1), random.byte() % 21);
+        [falling, longer]
+    });
+    lists.collect()
+}
+
+/// All n, r and z up to 20, and some at the upper end, with lists of counts that are near what n and r want and with
+/// thousands that are the same for all.
 #[test]
 fn small_sizes_and_the_ends_of_the_byte_range() {
     let mut random = Random::new(1);
     let sizes: Vec<u8> = (0..=20).chain(250..=255).collect();
     let mut tally = Tally::default();
+    let mut same_for_all: Vec<Scheme> = lists(&mut random).into_iter().map(|counts| scheme(0, 0, 0, counts)).collect();
     for &n in &sizes {
         for &r in &sizes {
             for &z in &sizes {
@@ -42,11 +55,15 @@ fn small_sizes_and_the_ends_of_the_byte_range() {
                     change(&mut bad);
                     tally.check(&bad);
                 }
+                for scheme in &mut same_for_all {
+                    (scheme.n, scheme.r, scheme.z) = (n, r, z);
+                    tally.check(scheme);
+                }
             }
         }
     }
     println!("{tally:?}");
-    assert!(tally.schemes > 200_000 && tally.accepted > 500);
+    assert!(tally.outcomes.iter().all(|&many| many > 500));
 }
 
 #[test]
@@ -54,7 +71,7 @@ fn every_falling_list_of_good_sizes() {
     let mut tally = Tally::default();
     falling_lists(|n, r, z, counts| tally.check(&scheme(n, r, z, counts)));
     println!("{tally:?}");
-    assert_eq!((tally.schemes, tally.accepted), (130_918, 50_975));
+    assert_eq!(tally.outcomes, [50_975, 0, 0, 21_778, 58_165]);
 }
 
 #[test]
@@ -72,7 +89,7 @@ fn drawn_bytes_and_long_lists() {
         tally.check(&scheme(5, 2, 1, counts));
     }
     println!("{tally:?}");
-    assert!(tally.accepted < tally.schemes / 2);
+    assert!(tally.outcomes[0] < tally.outcomes.iter().sum::<usize>() / 2);
 }
 
 /// The constants are where the library draws its lines.

@@ -46,6 +46,14 @@ fn check(n: u8, r: u8, z: u8, counts: &[u8]) -> library::Checked {
     answer
 }
 
+/// The same, and how many multiples of the first d - z were tried.
+fn check_tried(n: u8, r: u8, z: u8, counts: &[u8]) -> library::CheckedTried {
+    let answer = library::check_tried(n, r, z, counts);
+    assert_eq!(answer, reference::check_tried(n, r, z, counts));
+    assert_eq!(answer.0, check(n, r, z, counts));
+    answer
+}
+
 #[test]
 fn arithmetic() {
     for (a, b, product) in [(0x57, 0x83, 0xc1), (0x57, 0x13, 0xfe)] {
@@ -91,6 +99,55 @@ fn schemes() {
     assert_eq!(check(2, 1, 1, &[2]), Err(2));
     assert_eq!(check(1, 0, 1, &[1]), Err(1));
     assert_eq!(check(17, 0, 1, &[17]), Err(1));
+}
+
+/// The first multiple that is tried is the first d - z itself, and the last one is m: they are m ÷ (first d - z).
+#[test]
+fn multiples_tried() {
+    let default = Ok((6, 6));
+    assert_eq!([library::check_tried_default(), check_tried(5, 2, 2, &[5, 4, 3])], [(default, 2); 2]);
+    assert_eq!(library::check_default(), default);
+    let (n, r, z) = (FORMER_DEFAULT_N, FORMER_DEFAULT_R, FORMER_DEFAULT_Z);
+    assert_eq!(check_tried(n, r, z, &FORMER_DEFAULT_COUNTS), (Ok((12, 6)), 3));
+    assert_eq!(check_tried(2, 0, 1, &[2]), (Ok((1, 1)), 1));
+    // One count alone: m is its d - z, the first number that is tried.
+    assert_eq!(check_tried(16, 1, 4, &[15]), (Ok((11, 1)), 1));
+    // m is the limit itself.
+    assert_eq!(check_tried(9, 3, 1, &[9, 8, 7, 6]), (Ok((840, 168)), 105));
+    assert_eq!(check_tried(16, 8, 1, &[16, 9, 8]), (Ok((840, 120)), 56));
+}
+
+/// Where m is above the limit, every multiple up to the limit is tried, and none above it.
+#[test]
+fn multiples_tried_up_to_the_limit() {
+    // 93 × 9 is 837, and 64 × 13 is 832.
+    assert_eq!(check_tried(10, 4, 1, &[10, 9, 8, 6]), (Err(4), 93));
+    assert_eq!(check_tried(14, 7, 1, &[14, 12, 7]), (Err(4), 64));
+    // The limit itself is one: 70 × 12, 60 × 14 and 56 × 15.
+    assert_eq!(check_tried(13, 5, 1, &[13, 12, 8]), (Err(4), 70));
+    assert_eq!(check_tried(15, 5, 1, &[15, 12, 10]), (Err(4), 60));
+    assert_eq!(check_tried(16, 4, 1, &[16, 14, 12]), (Err(4), 56));
+}
+
+/// Refusals 1 to 3 come before the search, also where m would be above the limit.
+#[test]
+fn nothing_tried() {
+    for n in [1, 17] {
+        assert_eq!(check_tried(n, 0, 1, &[n]), (Err(1), 0));
+    }
+    for (r, z) in [(4, 0), (9, 1), (255, 1)] {
+        assert_eq!(check_tried(10, r, z, &[10, 9, 8, 6]), (Err(2), 0));
+    }
+    let nine_counts: Vec<u8> = (8..=16).rev().collect();
+    for (n, r, counts) in [
+        (10, 4, &[][..]),
+        (10, 4, &[10, 9, 8, 7]),
+        (9, 3, &[10, 9, 8, 6]),
+        (10, 4, &[10, 8, 9, 6]),
+        (16, 8, &nine_counts),
+    ] {
+        assert_eq!(check_tried(n, r, 1, counts), (Err(3), 0));
+    }
 }
 
 /// In the default scheme it makes 2,731 blocks of 6 bytes in 6 rows.

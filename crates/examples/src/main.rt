@@ -1,5 +1,6 @@
 // Runs the examples of document 01 through the public functions, and prints a line for each: those without a
-// star, which no theorem has, and those with one too. The file `stdout` is written from the document.
+// star, which no theorem has, and those with one too; and those of document 02, d. The file `stdout` is written from the
+// documents.
 mod lengths;
 mod openings;
 mod printing;
@@ -20,6 +21,7 @@ fn main() {
     shares::two_blocks();
     schemes::limits();
     schemes::two_parties();
+    schemes::tried();
     lengths::longest();
     lengths::too_long();
 }

@@ -1,6 +1,7 @@
 // Schemes: what the check answers.
 use crate::printing;
 use scheme::SchemeAnswer;
+use scheme::TriedAnswer;
 
 // Document 01's plan A, with P of each count.
 pub(crate) fn scheme_a() {
@@ -24,14 +25,34 @@ pub(crate) fn two_parties() {
     show(17, 0, 1, &[2]);
 }
 
+// How many multiples of the first d - z the check tried (document 02, d): up to the block length, in the default scheme
+// too; up to the limit, which 12 divides and 9 does not; and none, where another refusal comes before the search.
+pub(crate) fn tried() {
+    show_tried(9, 3, 1, &[9, 8, 7, 6]);
+    printing::word(b"default");
+    show_tried_answer(scheme::check_tried_default());
+    show_tried(10, 4, 1, &[10, 9, 8, 6]);
+    show_tried(13, 5, 1, &[13, 12, 8]);
+    show_tried(10, 5, 1, &[10, 9, 8, 6]);
+}
+
 // A scheme and what the check answers.
 fn show(n: u8, r: u8, z: u8, counts: &[u8]) {
+    show_scheme(n, r, z, counts);
+    show_answer(scheme::check(n, r, z, counts));
+    printing::end_line();
+}
+
+fn show_tried(n: u8, r: u8, z: u8, counts: &[u8]) {
+    show_scheme(n, r, z, counts);
+    show_tried_answer(scheme::check_tried(n, r, z, counts));
+}
+
+fn show_scheme(n: u8, r: u8, z: u8, counts: &[u8]) {
     printing::byte(b"n", n);
     printing::byte(b" r", r);
     printing::byte(b" z", z);
     printing::bytes(b" counts", counts);
-    show_answer(scheme::check(n, r, z, counts));
-    printing::end_line();
 }
 
 fn show_answer(answer: SchemeAnswer) {
@@ -42,4 +63,18 @@ fn show_answer(answer: SchemeAnswer) {
         }
         SchemeAnswer::Refused(number) => printing::refused(number),
     }
+}
+
+fn show_tried_answer(answer: TriedAnswer) {
+    match answer {
+        TriedAnswer::Accepted(s, tried) => {
+            show_answer(SchemeAnswer::Accepted(s));
+            printing::number(b" tried", tried);
+        }
+        TriedAnswer::Refused(number, tried) => {
+            printing::refused(number);
+            printing::number(b" tried", tried);
+        }
+    }
+    printing::end_line();
 }

@@ -1,4 +1,5 @@
--- The structs that the C boundary answers, field by field: the refusal's number, 0 when accepted, then the values, 0 on a refusal.
+-- The structs that the C boundary answers, field by field: the refusal's number, 0 when accepted, then the values, 0 on a refusal but for the number
+-- tried, which stands beside refusal 4 too.
 -- Assumes nothing.
 use mathlib.Core.Path.{_≡_}
 use mathlib.Core.List.{List, [], _∷_}
@@ -17,6 +18,7 @@ use Rattle.exports.specs.declared.SharingScheme.{SharingScheme}
 use Rattle.exports.specs.declared.SharingAnswer.{SharingAnswer}
 use Rattle.exports.specs.declared.padded.SharingPaddedAnswer.{SharingPaddedAnswer}
 use Rattle.exports.specs.declared.SharingBasis.{SharingBasis}
+use Rattle.exports.specs.declared.tried.SharingTriedScheme.{SharingTriedScheme}
 
 abbrev pub schemeFields : SharingScheme → List ℕ
 schemeFields s = s .refusal ∷ s .block ∷ s .rows ∷ []
@@ -24,6 +26,13 @@ schemeFields s = s .refusal ∷ s .block ∷ s .rows ∷ []
 -- of the check's values n, r, z, m, b the last two are handed over
 abbrev pub checkedFields : Outcome → List ℕ
 checkedFields o = o .number ∷ getD (o .values) 3 0 ∷ getD (o .values) 4 0 ∷ []
+
+-- of the check with the number tried, which is the first of the values n, r, z, m, b beside it, and stands beside a refusal too
+abbrev pub triedSchemeFields : SharingTriedScheme → List ℕ
+triedSchemeFields s = s .refusal ∷ s .block ∷ s .rows ∷ s .tried ∷ []
+
+abbrev pub checkedTriedFields : Outcome → List ℕ
+checkedTriedFields o = o .number ∷ getD (o .values) 4 0 ∷ getD (o .values) 5 0 ∷ getD (o .values) 0 0 ∷ []
 
 -- of a call that answers one value
 abbrev pub answerFields : SharingAnswer → List ℕ

@@ -1,12 +1,12 @@
 -- The search for the block length finds the smallest of all positive numbers that every d − z divides, since it passes none and the product
--- of all d − z is one. What the code's search has found at its two ways out follows.
+-- of all d − z is one.
 -- Assumes nothing.
 use mathlib.Core.Path.{_≡_, refl, sym, _∙_}
 use mathlib.Core.Bool.{Bool, true, false, cond, true≢false}
 use mathlib.Core.Logic.{⊎-elim}
 use mathlib.Core.List.{List, [], _∷_}
-use Prim.Native.Nat.{ℕ, zero, suc, _+_, _-_, _*_, _%_, _≤_, _<_, _∣_, min}
-use native.Mathlib.Nat.{eq-or-lt-of-le, le-antisymm, mul-pos, dvd-mul-right, dvd-mul-left-of-dvd, dvd-of-mod-eq-zero, mod-eq-zero-of-dvd, pos-of-dvd-of-pos, min-eq-left, min-eq-right}
+use Prim.Native.Nat.{ℕ, zero, suc, _+_, _-_, _*_, _%_, _≤_, _<_, _∣_}
+use native.Mathlib.Nat.{eq-or-lt-of-le, le-antisymm, mul-pos, dvd-mul-right, dvd-mul-left-of-dvd, dvd-of-mod-eq-zero, mod-eq-zero-of-dvd, pos-of-dvd-of-pos}
 use native.Mathlib.Numerals.{add-one}
 use native.Mathlib.Omega.{arith}
 use lib.Dec.{eqb}
@@ -19,14 +19,14 @@ use Rattle.lists.proofs.Tests.{both}
 use Rattle.scheme.specs.BlockLength.{divides, firstFrom, commonMultiple, blockLength, Least}
 
 -- the test says what it is to say
-divides-each : (z : ℕ) (ds : List ℕ) (x : ℕ) → divides z ds x ≡ true → Each (λ d. d - z ∣ x) ds
+pub divides-each : (z : ℕ) (ds : List ℕ) (x : ℕ) → divides z ds x ≡ true → Each (λ d. d - z ∣ x) ds
 unfolding divides
 divides-each z [] x e = tt
 divides-each z (d ∷ ds) x e =
     let t = both (eqb (x % (d - z)) 0) (divides z ds x) e in
     (dvd-of-mod-eq-zero (d - z) (eqb-true (x % (d - z)) 0 (t .0)), divides-each z ds x (t .1))
 
-each-divides : (z : ℕ) (ds : List ℕ) (x : ℕ) → Each (λ d. d - z ∣ x) ds → divides z ds x ≡ true
+pub each-divides : (z : ℕ) (ds : List ℕ) (x : ℕ) → Each (λ d. d - z ∣ x) ds → divides z ds x ≡ true
 unfolding divides
 each-divides z [] x h = refl
 each-divides z (d ∷ ds) x h = rw (eq-eqb (x % (d - z)) 0 (mod-eq-zero-of-dvd (d - z) (h .0)), each-divides z ds x (h .1))
@@ -53,7 +53,7 @@ divided-above : (z : ℕ) (ds : List ℕ) (x : ℕ) → 0 < x → Each (λ d. d 
 divided-above z ds x p h = each-imp (λ d. d - z ∣ x) (λ d. z < d) (λ d divides. omega (arith, pos-of-dvd-of-pos divides p)) ds h
 
 -- every d − z divides none of the numbers from x up to y
-abbrev pub NoneFrom : ℕ → List ℕ → ℕ → ℕ → Type 0
+abbrev NoneFrom : ℕ → List ℕ → ℕ → ℕ → Type 0
 NoneFrom z ds x y = (k : ℕ) → x ≤ k → k < y → divides z ds k ≡ false
 
 -- what the search over `many` numbers from x up finds
@@ -117,17 +117,7 @@ least-above {z} {ds} {m} l = divided-above z ds m (l .positive) (l .divided)
 pub least-unique : {z : ℕ} {ds : List ℕ} {a b : ℕ} → Least z ds a → Least z ds b → a ≡ b
 least-unique {z} {ds} {a} {b} p q = le-antisymm (p .smallest b (q .positive) (q .divided)) (q .smallest a (p .positive) (p .divided))
 
--- the outer loop of the code's search
-module _ (z : ℕ) (ds : List ℕ) where
-  pub none-first : NoneFrom z ds 1 1
-  none-first k a b = absurd (let no : ⊥ = omega arith in no)
-
-  pub none-more : (m : ℕ) → NoneFrom z ds 1 m → divides z ds m ≡ false → NoneFrom z ds 1 (m + 1)
-  none-more m none e k a b =
-      let l : k ≤ m = omega arith in
-      ⊎-elim (λ s. rw s e) (λ s. none k a s) (eq-or-lt-of-le l)
-
--- its inner loop: the counts from i on
+-- the test in the code: the counts from i on
 module _ (z : ℕ) (ds : List ℕ) (x i : ℕ) where
   pub divides-end : i ≡ length ds → divides z (drop i ds) x ≡ true
   unfolding divides
@@ -140,17 +130,3 @@ module _ (z : ℕ) (ds : List ℕ) (x i : ℕ) where
   pub divides-not : i < length ds → (x % (getD ds i 0 - z) ≡ 0 → ⊥) → divides z (drop i ds) x ≡ false
   unfolding divides
   divides-not h e = rw (drop-cons ds i 0 h, ne-eqb _ _ e)
-
--- its two ways out, with the limit l: at the limit, and at a number that is divided
-module _ (z : ℕ) (ds : List ℕ) (above : Each (λ d. z < d) ds) (l m : ℕ) (none : NoneFrom z ds 1 m) where
-  pub search-past : m ≡ l + 1 → m ≡ min (blockLength z ds) (l + 1)
-  search-past e =
-      let b = block-least z ds above in
-      let h = past z ds m (blockLength z ds) none (b .positive) (b .divided) in
-      e ∙ sym (min-eq-right (rw e at h))
-
-  pub search-here : 0 < m → m ≤ l → divides z ds m ≡ true → m ≡ min (blockLength z ds) (l + 1)
-  search-here p h e =
-      let b = block-least z ds above in
-      let m-least : Least z ds m = record { positive = p; divided = divides-each z ds m e; smallest = λ x. past z ds m x none } in
-      least-unique m-least b ∙ sym (min-eq-left (rw (least-unique b m-least) (omega arith)))

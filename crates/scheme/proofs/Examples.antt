@@ -7,6 +7,7 @@ use Rattle.scheme.specs.Outcome.{accepted, refused, firstOf, answer}
 use Rattle.scheme.specs.BlockLength.{divides, firstFrom, commonMultiple, blockLength}
 use Rattle.scheme.specs.Padding.{endMarker, paddedCount, mostPadded, blocksHeld}
 use Rattle.scheme.specs.Check.{falls, partiesRefused, thresholdsRefused, countsRefused, blockRefused, refusal, rowsOfCount, rowsOfBlock, blockCount, checked}
+use Rattle.scheme.specs.Tried.{beside, triedAt, checkedTried}
 
 pub limits :
     (maxParties ≡ 16)
@@ -61,3 +62,21 @@ pub examples :
     × (blocksHeld 1366 6 8202 ≡ 0)
 unfolding divides firstFrom commonMultiple blockLength falls partiesRefused thresholdsRefused countsRefused blockRefused firstOf answer refusal rowsOfCount rowsOfBlock blockCount checked paddedCount blocksHeld
 examples = (refl, refl, refl, refl, refl, refl, refl, refl, refl, refl, refl, refl, refl, refl, refl, refl, refl, refl, refl, refl, refl, refl, refl, refl, refl)
+
+-- the check with the number tried
+pub tried-examples :
+    -- the default: m is the second multiple of 3
+    (checkedTried defaultN defaultR defaultZ defaultCounts ≡ beside 2 (accepted (5 ∷ 2 ∷ 2 ∷ 6 ∷ 6 ∷ [])))
+    -- one count: m is the first multiple
+    × (checkedTried 2 0 1 (2 ∷ []) ≡ beside 1 (accepted (2 ∷ 0 ∷ 1 ∷ 1 ∷ 1 ∷ [])))
+    -- m is the limit, the 56th multiple of 15
+    × (checkedTried 16 11 1 (16 ∷ 15 ∷ 13 ∷ 11 ∷ 9 ∷ 7 ∷ 6 ∷ 5 ∷ []) ≡ beside 56 (accepted (16 ∷ 11 ∷ 1 ∷ 840 ∷ 210 ∷ [])))
+    -- m is above it: of the multiples of 9 the last one is 837, of those of 12 it is the limit
+    × (checkedTried 10 4 1 (10 ∷ 9 ∷ 8 ∷ 6 ∷ []) ≡ beside 93 (refused 4))
+    × (checkedTried 13 5 1 (13 ∷ 12 ∷ 8 ∷ []) ≡ beside 70 (refused 4))
+    -- refused before the search
+    × (checkedTried 17 4 1 (10 ∷ 9 ∷ 8 ∷ 6 ∷ []) ≡ beside 0 (refused 1))
+    × (checkedTried 10 9 1 (10 ∷ 9 ∷ 8 ∷ 6 ∷ []) ≡ beside 0 (refused 2))
+    × (checkedTried 10 5 1 (10 ∷ 9 ∷ 8 ∷ 6 ∷ []) ≡ beside 0 (refused 3))
+unfolding divides firstFrom commonMultiple blockLength falls partiesRefused thresholdsRefused countsRefused blockRefused firstOf answer refusal rowsOfCount rowsOfBlock checked triedAt checkedTried
+tried-examples = (refl, refl, refl, refl, refl, refl, refl, refl)

@@ -4,8 +4,7 @@
 use mathlib.Core.Path.{_≡_, sym}
 use mathlib.Core.Bool.{true, false, or-true}
 use mathlib.Core.List.{List, [], _∷_}
-use Prim.Native.Nat.{ℕ, _+_, _-_, _/_, _≤_, _<_, min}
-use native.Mathlib.Nat.{min-le-left, sub-add-min-cancel}
+use Prim.Native.Nat.{ℕ, _+_, _-_, _/_, _≤_, _<_}
 use native.Mathlib.Omega.{arith}
 use lib.Dec.{ltb, leb, eqb}
 use borrow.Author.Tests.{lt-ltb, le-ltb, le-leb, lt-leb, eq-eqb, ne-eqb, ltb-false, leb-false, eqb-false}
@@ -97,17 +96,14 @@ module _ (n r z : ℕ) (ds : List ℕ) where
     unfolding checked refusal
     counts-bad e = answers (pass-false 1 p (pass-false 2 t (stop-true e)))
 
-    -- with the block length that the code finds, at most one above the limit
-    module _ (b : ℕ) (is : b ≡ min (blockLength z ds) (maxBlock + 1)) (e : countsRefused n r ds ≡ false) where
-      pub block-long : maxBlock < b → refused 4 ≡ checked n r z ds
+    -- with the block length
+    module _ (e : countsRefused n r ds ≡ false) where
+      pub block-long : maxBlock < blockLength z ds → refused 4 ≡ checked n r z ds
       unfolding checked refusal blockRefused
-      block-long h =
-          let above : maxBlock < blockLength z ds = omega (arith, min-le-left (blockLength z ds) (maxBlock + 1)) in
-          answers (pass-false 1 p (pass-false 2 t (pass-false 3 e (stop-over above))))
+      block-long above = answers (pass-false 1 p (pass-false 2 t (pass-false 3 e (stop-over above))))
 
-      pub all-passed : (k : ℕ) → k ≡ n - (r + z) → b ≤ maxBlock → accepted (n ∷ r ∷ z ∷ b ∷ b / k ∷ []) ≡ checked n r z ds
+      pub all-passed : (b k : ℕ) → b ≡ blockLength z ds → k ≡ n - (r + z) → b ≤ maxBlock → accepted (n ∷ r ∷ z ∷ b ∷ b / k ∷ []) ≡ checked n r z ds
       unfolding checked rowsOfBlock
-      all-passed k k-is h =
-          let same : b ≡ blockLength z ds = omega (arith, sub-add-min-cancel (blockLength z ds) (maxBlock + 1)) in
+      all-passed b k is k-is h =
           let same-k : k ≡ n - r - z = omega arith in
-          rw (same, same-k) (sym (answer-none _ _ (refusal-0 n r z ds p t e (omega arith))))
+          rw (is, same-k) (sym (answer-none _ _ (refusal-0 n r z ds p t e (omega arith))))

@@ -5,4 +5,5 @@ pub mod Check
 pub mod Padding
 pub mod Facts
 pub mod Grounds
+pub mod Tried
 pub mod Readers

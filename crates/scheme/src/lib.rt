@@ -1,17 +1,19 @@
 // The scheme (document 01's plan): n parties, of which r may be absent and z may collude, and the
 // counts of parties from which a message is reconstructed.
 ghost use mathlib.Core.Path.{_≡_};
-ghost use Prim.Native.Nat.{ℕ, _+_, _<_, min};
-ghost use lib.ListN.{length, getD};
-ghost use Rattle.scheme.specs.Limits.{maxBlock, defaultN, defaultR, defaultZ, defaultCounts};
+ghost use Prim.Native.Nat.{_<_};
+ghost use Rattle.scheme.specs.Limits.{defaultN, defaultR, defaultZ, defaultCounts};
 ghost use Rattle.scheme.specs.Outcome.{schemeOutcome};
-ghost use Rattle.scheme.specs.BlockLength.{blockLength};
 ghost use Rattle.scheme.specs.Check.{checked, countsRefused, rowsOfCount, blockCount};
+ghost use Rattle.scheme.specs.Tried.{withoutTried, triedOutcome, checkedTried};
+use crate::search::Search;
+use crate::search::block_length;
 use lists::wide;
 
 pub mod limits;
 pub mod padding;
 mod readers;
+mod search;
 
 pub use readers::is_count;
 pub use readers::readers_refused;
@@ -31,6 +33,13 @@ pub enum SchemeAnswer {
     Refused(u8),
 }
 
+// The answer of the check that also tells how many multiples its search for the block length tried
+// (document 02, d): the check's answer, and that number beside it, beside a refusal too.
+pub enum TriedAnswer {
+    Accepted(Scheme, usize),
+    Refused(u8, usize),
+}
+
 // The answer of the calls that answer one number: that number, or the number of the first refusal that
 // applies.
 pub enum Answer {
@@ -44,47 +53,75 @@ pub enum Answer {
 pub fn check(n: u8, r: u8, z: u8, counts: &[u8]) -> SchemeAnswer
     ensures { λ a. ⌜ schemeOutcome a ≡ checked n r z (now (counts .entry)) ⌝ }
 {
+    without_tried(check_tried(n, r, z, counts))
+}
+
+// The same, and how many multiples of the first d - z the search for the block length tried: none on
+// refusals 1 to 3.
+pub fn check_tried(n: u8, r: u8, z: u8, counts: &[u8]) -> TriedAnswer
+    ensures { λ a. ⌜ triedOutcome a ≡ checkedTried n r z (now (counts .entry)) ⌝ }
+{
     if n < 2 {
-        return SchemeAnswer::Refused(1);
+        return TriedAnswer::Refused(1, 0);
     }
     if limits::MAX_PARTIES < n {
-        return SchemeAnswer::Refused(1);
+        return TriedAnswer::Refused(1, 0);
     }
     if z == 0 {
-        return SchemeAnswer::Refused(2);
+        return TriedAnswer::Refused(2, 0);
     }
     let parties = wide(n);
     let lost = wide(r) + wide(z);
     if parties <= lost {
-        return SchemeAnswer::Refused(2);
+        return TriedAnswer::Refused(2, 0);
     }
     if counts_refused(n, r, counts) {
-        return SchemeAnswer::Refused(3);
+        return TriedAnswer::Refused(3, 0);
     }
-    let block = block_length(z, counts);
-    if limits::MAX_BLOCK < block {
-        return SchemeAnswer::Refused(4);
+    let k = parties - lost;
+    let first = wide(counts[0]) - wide(z);
+    match block_length(first, z, counts) {
+        Search::Found(block, tried) => {
+            let scheme = Scheme {
+                n,
+                r,
+                z,
+                block,
+                rows: block / k,
+            };
+            TriedAnswer::Accepted(scheme, tried)
+        }
+        Search::PastLimit(tried) => TriedAnswer::Refused(4, tried),
     }
-    SchemeAnswer::Accepted(Scheme {
-        n,
-        r,
-        z,
-        block,
-        rows: block / (parties - lost),
-    })
 }
 
 // Checks the default scheme.
 pub fn check_default() -> SchemeAnswer
     ensures { λ a. ⌜ schemeOutcome a ≡ checked defaultN defaultR defaultZ defaultCounts ⌝ }
 {
+    without_tried(check_tried_default())
+}
+
+// The same, and how many multiples were tried.
+pub fn check_tried_default() -> TriedAnswer
+    ensures { λ a. ⌜ triedOutcome a ≡ checkedTried defaultN defaultR defaultZ defaultCounts ⌝ }
+{
     let counts = limits::DEFAULT_COUNTS;
-    check(
+    check_tried(
         limits::DEFAULT_N,
         limits::DEFAULT_R,
         limits::DEFAULT_Z,
         &counts,
     )
+}
+
+fn without_tried(answer: TriedAnswer) -> SchemeAnswer
+    ensures { λ a. ⌜ a ≡ withoutTried answer ⌝ }
+{
+    match answer {
+        TriedAnswer::Accepted(scheme, _) => SchemeAnswer::Accepted(scheme),
+        TriedAnswer::Refused(number, _) => SchemeAnswer::Refused(number),
+    }
 }
 
 // The number of an answer's refusal, 0 when the scheme is accepted.
@@ -147,29 +184,4 @@ fn counts_refused(n: u8, r: u8, counts: &[u8]) -> bool
         i += 1;
     }
     above != wide(n) - wide(r)
-}
-
-// The block length, or the number after the limit where it is longer: the first number from 1 up
-// that every d - z divides.
-fn block_length(z: u8, counts: &[u8]) -> usize
-    requires { ⌜ ((k : ℕ) → k < length (now counts) → z < getD (now counts) k 0) ⌝ }
-    ensures { λ m. ⌜ m ≡ min (blockLength z (now (counts .entry))) (maxBlock + 1) ⌝ }
-{
-    let mut m: usize = 1;
-    'search: loop {
-        if limits::MAX_BLOCK < m {
-            break 'search m;
-        }
-        let mut i = 0;
-        loop {
-            if i == counts.len() {
-                break 'search m;
-            }
-            if m % (wide(counts[i]) - wide(z)) != 0 {
-                break;
-            }
-            i += 1;
-        }
-        m += 1;
-    }
 }

@@ -16,8 +16,14 @@ pub struct Program {
 
 impl Program {
     pub fn new(bytes: usize, run: impl FnMut() + 'static) -> Program {
+        Program::with_turns_of(SECONDS_A_TURN, bytes, run)
+    }
+
+    /// With turns of at least so many seconds.
+    pub fn with_turns_of(seconds: f64, bytes: usize, run: impl FnMut() + 'static) -> Program {
         let mut program = Program { bytes, calls: 1, run: Box::new(run), seconds: Vec::new() };
-        while program.one_turn() < SECONDS_A_TURN {
+        // Twice, since one turn may have been held up.
+        while program.one_turn().min(program.one_turn()) < seconds {
             program.calls *= 2;
         }
         program

@@ -10,6 +10,14 @@ pub struct SharingScheme {
 }
 
 #[repr(C)]
+pub struct SharingTriedScheme {
+    pub refusal: u64,
+    pub block: u64,
+    pub rows: u64,
+    pub tried: u64,
+}
+
+#[repr(C)]
 pub struct SharingAnswer {
     pub refusal: u64,
     pub value: u64,
@@ -50,6 +58,8 @@ extern "C" {
     pub fn gf256_inverse(a: u8) -> u8;
     pub fn sharing_check(n: u8, r: u8, z: u8, counts: *const u8, length: usize) -> SharingScheme;
     pub fn sharing_check_default() -> SharingScheme;
+    pub fn sharing_check_tried(n: u8, r: u8, z: u8, counts: *const u8, length: usize) -> SharingTriedScheme;
+    pub fn sharing_check_tried_default() -> SharingTriedScheme;
     pub fn sharing_split(
         n: u8, r: u8, z: u8, counts: *const u8, counts_length: usize,
         message: *const u8, message_length: usize, keys: *const u8, keys_length: usize,
