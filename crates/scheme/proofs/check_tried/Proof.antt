@@ -39,7 +39,7 @@ check-tried-spec =
     (λ c κs.
     let e = c .before .before .before in
     let fit = counts-fit _ _ _ (sym (e .before .counts-refused .ensures) ∙ e .if5 .left) in
-    (fit .some, cc, λ k h. omega (arith, fit-low _ _ _ fit k h)))
+    (fit .some, omega arith, λ k h. omega (arith, fit-low _ _ _ fit k h)))
     (λ c. search needs)
     (λ c. search needs)
     (λ c. search needs)
