@@ -31,7 +31,8 @@ fn checked(answer: boundary::SharingScheme) -> Checked {
 pub type CheckedTried = (Checked, u64);
 
 fn checked_tried(answer: boundary::SharingTriedScheme) -> CheckedTried {
-    (unless_refused(answer.refusal, (answer.block, answer.rows), (0, 0)), answer.tried)
+    let boundary::SharingTriedScheme { refusal, block, rows, tried } = answer;
+    (checked(boundary::SharingScheme { refusal, block, rows }), tried)
 }
 
 /// The value that a call answers, or the number of its refusal.

@@ -1,6 +1,6 @@
 // Runs the examples of document 01 through the public functions, and prints a line for each: those without a
-// star, which no theorem has, and those with one too; and those of document 02, d. The file `stdout` is written from the
-// documents.
+// star, which no theorem has, and those with one too; and what document 02, d, says of some schemes. The file `stdout` is
+// written from the documents.
 mod lengths;
 mod openings;
 mod printing;

@@ -67,14 +67,13 @@ fn show_answer(answer: SchemeAnswer) {
 
 fn show_tried_answer(answer: TriedAnswer) {
     match answer {
-        TriedAnswer::Accepted(s, tried) => {
-            show_answer(SchemeAnswer::Accepted(s));
-            printing::number(b" tried", tried);
-        }
-        TriedAnswer::Refused(number, tried) => {
-            printing::refused(number);
-            printing::number(b" tried", tried);
-        }
+        TriedAnswer::Accepted(s, tried) => show_both(SchemeAnswer::Accepted(s), tried),
+        TriedAnswer::Refused(number, tried) => show_both(SchemeAnswer::Refused(number), tried),
     }
+}
+
+fn show_both(answer: SchemeAnswer, tried: usize) {
+    show_answer(answer);
+    printing::number(b" tried", tried);
     printing::end_line();
 }

@@ -27,10 +27,11 @@ schemeFields s = s .refusal ∷ s .block ∷ s .rows ∷ []
 abbrev pub checkedFields : Outcome → List ℕ
 checkedFields o = o .number ∷ getD (o .values) 3 0 ∷ getD (o .values) 4 0 ∷ []
 
--- of the check with the number tried, which is the first of the values n, r, z, m, b beside it, and stands beside a refusal too
+-- of the check with the number tried
 abbrev pub triedSchemeFields : SharingTriedScheme → List ℕ
 triedSchemeFields s = s .refusal ∷ s .block ∷ s .rows ∷ s .tried ∷ []
 
+-- that number is the first of the values, before n, r, z, m and b, and stands beside a refusal too
 abbrev pub checkedTriedFields : Outcome → List ℕ
 checkedTriedFields o = o .number ∷ getD (o .values) 4 0 ∷ getD (o .values) 5 0 ∷ getD (o .values) 0 0 ∷ []
 

@@ -1,4 +1,4 @@
--- The search for the block length finds the smallest of all positive numbers that every d − z divides, since it passes none and the product
+-- The definition's search for the block length finds the smallest of all positive numbers that every d − z divides, since it passes none and the product
 -- of all d − z is one.
 -- Assumes nothing.
 use mathlib.Core.Path.{_≡_, refl, sym, _∙_}

@@ -3,7 +3,7 @@
 -- Assumes nothing.
 use mathlib.Core.Path.{_≡_}
 use mathlib.Core.Bool.{cond}
-use mathlib.Core.List.{List, [], _∷_}
+use mathlib.Core.List.{List, _∷_}
 use Prim.Native.Nat.{ℕ, _+_, _-_, _*_, _/_, _≤_, _<_}
 use lib.Dec.{eqb}
 use Rattle.scheme.specs.declared.Scheme.{Scheme}
@@ -42,13 +42,13 @@ triedAt q z ds = cond (eqb q 0) (rowsOfCount (blockLength z ds) z (first ds)) (c
 unfoldable pub checkedTried : ℕ → ℕ → ℕ → List ℕ → Outcome
 checkedTried n r z ds = beside (triedAt (refusal n r z ds) z ds) (checked n r z ds)
 
--- what the search comes to: m, and how many multiples were tried; or that m is above the limit
+-- what the search comes to: m and how many multiples were tried, or that m is above the limit and how many were tried up to there
 abbrev pub Searched : ℕ → List ℕ → Search → Type 0
 Searched z ds (Found m tried) = (m ≡ blockLength z ds) × (m ≤ maxBlock) × (tried ≡ rowsOfCount m z (first ds))
 Searched z ds (PastLimit tried) = (maxBlock < blockLength z ds) × (tried ≡ maxBlock / (first ds - z))
 
--- in words: what is answered of the scheme is the check's answer, and the number tried is of the multiples of the first d − z up to m where m is
--- found, of those up to the limit where m is above it, and 0 where another refusal comes first. proofs/Tried.antt proves it
+-- in words: what is answered of the scheme is the check's answer, and the number tried is that of the multiples of the first d − z up to m where m is
+-- found, of those up to the limit where m is above it, and 0 where another refusal comes first. Proved as `tried-answers` in proofs/Tried.antt
 pub record TriedBy (n r z : ℕ) (ds : List ℕ) (a : TriedAnswer) : Type 0 where
   pub check : CheckedBy n r z ds (withoutTried a)
   pub found : (s : Scheme) (tried : ℕ) → a ≡ Accepted s tried → tried * (first ds - z) ≡ s .block

@@ -115,6 +115,7 @@ pub fn check_tried_default() -> TriedAnswer
     )
 }
 
+// The check's part of the answer.
 fn without_tried(answer: TriedAnswer) -> SchemeAnswer
     ensures { λ a. ⌜ a ≡ withoutTried answer ⌝ }
 {

@@ -40,7 +40,7 @@ struct OnShape {
     program: Program,
 }
 
-/// What holds the machine up for a while meets one round of a shape and not all of them.
+/// A turn of each shape: what holds the machine up for a while meets one round of a shape and not all of them.
 fn round(shapes: &mut [OnShape]) {
     for OnShape { program, .. } in shapes {
         // Twice: the first turn fetches what the shapes before have pushed out of the caches.
