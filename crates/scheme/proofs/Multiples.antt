@@ -20,6 +20,10 @@ use Rattle.scheme.specs.Check.{first, rowsOfCount}
 use Rattle.scheme.specs.Tried.{Searched}
 use Rattle.scheme.proofs.BlockLength.{divides-each, each-divides, block-least, least-unique}
 
+-- where every count is above z, the first d − z is positive
+pub first-positive : (z : ℕ) (ds : List ℕ) → 0 < length ds → Each (λ d. z < d) ds → 0 < first ds - z
+first-positive z ds some above = omega (arith, each-getD {A = ℕ} (λ d. z < d) ds 0 0 some above)
+
 -- the search so far: so many multiples of the first d − z, the step, were tried, up to m, and all d − z divide none of them
 pub record Searching (z : ℕ) (ds : List ℕ) (step m tried : ℕ) : Type 0 where
   pub step-is : step ≡ first ds - z
@@ -51,7 +55,7 @@ module _ (z : ℕ) (ds : List ℕ) (step : ℕ) where
 
     module _ (some : 0 < length ds) (above : Each (λ d. z < d) ds) where
       step-positive : 0 < step
-      step-positive = omega (arith, s .step-is, each-getD {A = ℕ} (λ d. z < d) ds 0 0 some above)
+      step-positive = rw (s .step-is) (first-positive z ds some above)
 
       -- a number that all divide is a multiple, and so the next one or a greater one
       past : (x : ℕ) → 0 < x → Each (λ d. d - z ∣ x) ds → m + step ≤ x

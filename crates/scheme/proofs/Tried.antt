@@ -4,12 +4,10 @@ use mathlib.Core.Path.{_≡_, sym, ap, _∙_}
 use mathlib.Core.Logic.{inl, inr}
 use mathlib.Core.List.{List, []}
 use Prim.Native.Nat.{ℕ, _+_, _-_, _*_, _/_, _≤_, _<_}
-use native.Mathlib.Nat.{div-mul-le-self, lt-div-mul-add, suc-mul}
-use native.Mathlib.Numerals.{add-one}
+use native.Mathlib.Nat.{div-mul-le-self, div-lt-iff-lt-mul}
 use native.Mathlib.Omega.{arith}
 use lib.ListN.{length, getD, drop}
 use borrow.Author.Tests.{ne-eqb}
-use Rattle.lists.proofs.Each.{each-getD}
 use Rattle.scheme.specs.declared.Scheme.{Scheme}
 use Rattle.scheme.specs.declared.TriedAnswer.{TriedAnswer}
 use Rattle.scheme.specs.declared.TriedAnswer.the-variants.{Accepted, Refused}
@@ -21,6 +19,7 @@ use Rattle.scheme.specs.Grounds.{CountsWrong, BlockTooLong, FirstApplies
 use Rattle.scheme.specs.Tried.{beside, withoutTried, triedOutcome, triedAt, checkedTried, TriedBy}
 use Rattle.scheme.proofs.Answers.{answer-number, scheme-told}
 use Rattle.scheme.proofs.BlockLength.{least-above}
+use Rattle.scheme.proofs.Multiples.{first-positive}
 use Rattle.scheme.proofs.SchemeFacts as facts
 use Rattle.scheme.proofs.Grounds.{check-answers}
 
@@ -28,7 +27,7 @@ use Rattle.scheme.proofs.Grounds.{check-answers}
 beside-number : {t t′ : ℕ} {o o′ : Outcome} → beside t o ≡ beside t′ o′ → t ≡ t′
 beside-number e = ap (λ (o : Outcome). getD (o .values) 0 0) e
 
-pub beside-outcome : {t t′ : ℕ} {o o′ : Outcome} → beside t o ≡ beside t′ o′ → o ≡ o′
+beside-outcome : {t t′ : ℕ} {o o′ : Outcome} → beside t o ≡ beside t′ o′ → o ≡ o′
 beside-outcome e = ap (λ (o : Outcome). record { number = o .number; values = drop 1 (o .values) }) e
 
 module _ (n r z : ℕ) (ds : List ℕ) where
@@ -74,7 +73,7 @@ module _ (n r z : ℕ) (ds : List ℕ) where
       let long = long-told f in
       let no-counts : length ds ≡ 0 → ⊥ = λ e. long .0 (inl e) in
       let some : 0 < length ds = omega arith in
-      omega (arith, each-getD {A = ℕ} (λ d. z < d) ds 0 0 some (least-above (long .1 .1)))
+      first-positive z ds some (least-above (long .1 .1))
 
   pub check-told : (a : TriedAnswer) → triedOutcome a ≡ checkedTried n r z ds → schemeOutcome (withoutTried a) ≡ checked n r z ds
   unfolding checkedTried
@@ -101,9 +100,7 @@ module _ (n r z : ℕ) (ds : List ℕ) where
     passed-told t told =
         let number = number-told 4 [] (sym (ap triedOutcome told) ∙ e) .0 in
         let positive = step-positive (check-answers n r z ds (withoutTried a) (check-told a e) .refuses 4 .0 (ap withoutTried told)) in
-        let low : t * (first ds - z) ≤ maxBlock = rw number (div-mul-le-self maxBlock (first ds - z)) in
-        let high : maxBlock < t * (first ds - z) + (first ds - z) = rw number (lt-div-mul-add positive) in
-        (low, rw (add-one t, suc-mul t (first ds - z)) high)
+        (rw number (div-mul-le-self maxBlock (first ds - z)), div-lt-iff-lt-mul positive .0 (omega (arith, number)))
 
     none-told : (q t : ℕ) → a ≡ Refused q t → q < 4 → t ≡ 0
     none-told q t told l =
