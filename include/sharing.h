@@ -30,8 +30,8 @@
  *
  * Every call returns, whatever numbers, bytes and lengths it is given; no pointer may be NULL, not even
  * beside the length 0. `refusal` is 0 when it was accepted; otherwise it is the first of these numbers
- * that applies (archive_write alone looks at 10 last), every other field is 0 but for `tried` beside
- * refusal 4, and nothing was written:
+ * that applies (15 is looked at before 9, and 10 by archive_write alone last), every other field is 0 but
+ * for `tried` beside refusal 4, and nothing was written:
  *
  *    1  n is below 2 or above 16
  *    2  z is 0, or r + z is n or more
@@ -53,6 +53,8 @@
  *       the file; writing: an entry has no bytes, an offset or a length is above 65,535, or the lengths
  *       do not add up to contents_length (no sum wraps around)
  *   14  no entry of the archive has this number
+ *   15  the range ends after the message: start + range_length is above message_length (the sum does not
+ *       wrap around)
  *
  * What the caller owes, since nothing here can check it: a pointer is not NULL; as many bytes as its
  * length says stand behind it, or as many numbers behind `lengths`, and no other thread changes them
@@ -227,6 +229,27 @@ sharing_answer sharing_reconstruct(
 /* The same with the default scheme. Refusals 5 to 7, 9 and 10. */
 sharing_answer sharing_reconstruct_default(
     size_t message_length, const uint8_t *parties, size_t parties_length,
+    const uint8_t *prefixes, size_t prefixes_length, uint8_t *out, size_t out_length);
+
+/*
+ * Reconstructs a range of a message of message_length bytes in the earlier form: the range_length bytes from
+ * place `start` on, counted from 0, as sharing_reconstruct would write them. It takes row after row of the
+ * prefixes, each of all blocks, until every place of a block that the range needs, or a copy of it, stands in
+ * one of them. The rows from m / (d' - z) to m / (d - z) - 1 come first, d' being the count before d (from 0
+ * if there is none), then in the same way those of d', and so on. `value` is the number of prefix bytes in
+ * the rows taken, d x rows x N; an empty range takes none. Row j of block t is byte j x N + t of a prefix.
+ * Rows that are not taken may hold anything: the call serves while they are still on their way, but `prefixes`
+ * has its full length, and nobody writes there during the call. Refusals 1 to 7, 15, 9 and 10 (`out` has
+ * range_length bytes), in this order.
+ */
+sharing_answer sharing_reconstruct_range(
+    uint8_t n, uint8_t r, uint8_t z, const uint8_t *counts, size_t counts_length,
+    size_t message_length, size_t start, size_t range_length, const uint8_t *parties, size_t parties_length,
+    const uint8_t *prefixes, size_t prefixes_length, uint8_t *out, size_t out_length);
+
+/* The same with the default scheme. Refusals 5 to 7, 15, 9 and 10. */
+sharing_answer sharing_reconstruct_range_default(
+    size_t message_length, size_t start, size_t range_length, const uint8_t *parties, size_t parties_length,
     const uint8_t *prefixes, size_t prefixes_length, uint8_t *out, size_t out_length);
 
 /*

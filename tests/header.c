@@ -98,6 +98,35 @@ static void openings(void) {
     EXPECT(a.refusal == 0 && a.value == 12 && memcmp(again, message, 5) == 0);
 }
 
+/*
+ * The rows hold 5 7 1, then 255 16 0, then the copies 1 0, which are taken first from four parties. They are enough for the
+ * byte 1, and with the first row for all three. The second row has not come yet: zeros stand in its place.
+ */
+static void ranges(void) {
+    const uint8_t of_four[] = {14, 0, 232, 61, 0, 142, 137, 0, 92, 226, 0, 124}, before[] = {7, 7, 7, 7, 7};
+    const struct { size_t start, length, value; } accepted[] = {{0, 3, 8}, {1, 1, 8}, {2, 1, 4}, {0, 0, 0}, {5, 0, 0}};
+    const struct { size_t start, length, prefixes, out, refusal; } refused[] = {
+        {0, 3, 12, 2, 10}, {0, 3, 12, 5, 10}, {0, 3, 11, 2, 9}, {4, 2, 11, 3, 15}, {6, 0, 12, 0, 15},
+        {SIZE_MAX, 0, 12, 0, 15}, {SIZE_MAX, 1, 12, 0, 15}, {SIZE_MAX, 4, 12, 3, 15}, {1, SIZE_MAX, 12, 0, 15},
+    };
+    uint8_t out[5];
+    for (size_t i = 0; i < sizeof accepted / sizeof *accepted; i++) {
+        size_t start = accepted[i].start, length = accepted[i].length;
+        memcpy(out, before, 5);
+        sharing_answer a =
+            sharing_reconstruct_range(5, 1, 2, counts, 2, 5, start, length, four, 4, of_four, 12, out, length);
+        EXPECT(a.refusal == 0 && a.value == accepted[i].value);
+        EXPECT(memcmp(out, message + start, length) == 0 && memcmp(out + length, before, 5 - length) == 0);
+    }
+    memcpy(out, before, 5);
+    for (size_t i = 0; i < sizeof refused / sizeof *refused; i++) {
+        sharing_answer a = sharing_reconstruct_range(
+            5, 1, 2, counts, 2, 5, refused[i].start, refused[i].length, four, 4, of_four, refused[i].prefixes,
+            out, refused[i].out);
+        EXPECT(a.refusal == refused[i].refusal && a.value == 0 && memcmp(out, before, 5) == 0);
+    }
+}
+
 static void padded_openings(void) {
     const uint8_t of_four[] = {14, 107, 104, 61, 135, 226, 137, 48, 17, 226, 2, 95};
     const uint8_t of_earlier[] = {14, 235, 232, 61, 95, 142, 137, 31, 92, 226, 173, 124};
@@ -127,12 +156,27 @@ static void two_refusals(void) {
     EXPECT(a.refusal == 7 && a.value == 0 && memcmp(out, before, 14) == 0);
     a = sharing_reconstruct(5, 1, 2, counts, 2, 5, four, 4, shares, 11, out, 4);
     EXPECT(a.refusal == 9 && a.value == 0 && memcmp(out, before, 14) == 0);
+    a = sharing_reconstruct_range(5, 1, 2, counts, 2, 5, 4, 2, falling, 4, shares, 12, out, 2);
+    EXPECT(a.refusal == 7 && a.value == 0 && memcmp(out, before, 14) == 0);
     a = sharing_split_padded(5, 1, 2, counts, 2, message, 5, keys, 5, out, 14);
     EXPECT(a.refusal == 8 && a.value == 0 && memcmp(out, before, 14) == 0);
     a = sharing_prefix_padded(5, 1, 2, counts, 2, 3, shares, 2);
     EXPECT(a.refusal == 6 && a.value == 0);
     sharing_padded_answer p = sharing_reconstruct_padded(5, 1, 2, counts, 2, four, 4, shares, 12, out, 5);
     EXPECT(p.refusal == 10 && p.used == 0 && p.length == 0 && memcmp(out, before, 14) == 0);
+}
+
+/* Of two blocks of 6 bytes, from three parties: the places 4 and 5 stand in the second and the third row taken. */
+static void ranges_by_default(const uint8_t *three, const uint8_t *prefixes, const uint8_t *text) {
+    uint8_t out[3] = {7, 7, 7};
+    sharing_answer a = sharing_reconstruct_range_default(12, 12, 0, three, 3, prefixes, 36, out, 0);
+    EXPECT(a.refusal == 0 && a.value == 0 && out[0] == 7);
+    a = sharing_reconstruct_range_default(12, 10, 2, three, 3, prefixes, 36, out, 3);
+    EXPECT(a.refusal == 10 && a.value == 0 && out[0] == 7);
+    a = sharing_reconstruct_range_default(12, SIZE_MAX, 2, three, 3, prefixes, 36, out, 2);
+    EXPECT(a.refusal == 15 && a.value == 0 && out[0] == 7);
+    a = sharing_reconstruct_range_default(12, 10, 2, three, 3, prefixes, 36, out, 2);
+    EXPECT(a.refusal == 0 && a.value == 18 && memcmp(out, text + 10, 2) == 0 && out[2] == 7);
 }
 
 /* Twelve bytes in two blocks of 6, with 6 rows of 2 keys each. */
@@ -149,6 +193,7 @@ static void default_scheme(void) {
     memcpy(prefixes + 24, out + 36, 12);
     a = sharing_reconstruct_default(12, three, 3, prefixes, 36, opened, 12);
     EXPECT(a.refusal == 0 && a.value == 36 && memcmp(opened, text, 12) == 0);
+    ranges_by_default(three, prefixes, text);
     EXPECT(sharing_basis_default(three, 3).refusal == 0);
     sharing_basis_answer refused = sharing_basis_default(equal, 3);
     EXPECT(refused.refusal == 7 && refused.weights[0] == 0);
@@ -251,6 +296,7 @@ int main(void) {
     prefixes();
     bases();
     openings();
+    ranges();
     padded_openings();
     two_refusals();
     default_scheme();

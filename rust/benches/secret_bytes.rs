@@ -56,8 +56,19 @@ enum Secret {
     All,
 }
 
-/// Splits a secret message under secret keys, which makes the shares secret, and opens it again. The complaints that the
-/// opener brought.
+/// Opens a range of a message of the earlier form: where it starts, and its bytes. Padded messages have no ranges.
+fn reconstruct_range(call: &Call, prefixes: &[u8], random: &mut Random) -> (usize, Vec<u8>) {
+    if call.form == Form::Padded {
+        return (0, Vec::new());
+    }
+    let call = call.with_drawn_range(random);
+    let mut range = vec![0; call.range];
+    assert!(calls::reconstruct_range(&call, prefixes, &mut range).is_ok());
+    (call.start, range)
+}
+
+/// Splits a secret message under secret keys, which makes the shares secret, and opens it again, and a range of it. The
+/// complaints that the opener brought.
 fn split_and_reconstruct(call: &Call, secret: Secret, random: &mut Random) -> u64 {
     let (message, keys) = (random.bytes(call.length), random.bytes(call.keys));
     let (mut shares, mut opened) = (vec![0; call.shares], vec![0; call.message]);
@@ -77,10 +88,12 @@ fn split_and_reconstruct(call: &Call, secret: Secret, random: &mut Random) -> u6
     let complaints = request(COUNT_ERRORS, &[]) - before;
     let answer = answer.map(|(used, length)| (used, shown(length)));
     assert_eq!(answer, Ok((call.prefixes as u64, call.length as u64)));
-    for secret in [&message, &keys, &shares, &prefixes, &opened] {
+    let (start, range) = reconstruct_range(call, &prefixes, random);
+    for secret in [&message, &keys, &shares, &prefixes, &opened, &range] {
         request(MAKE_DEFINED, secret);
     }
     assert!(opened[..call.length] == message);
+    assert!(message[start..].starts_with(&range));
     complaints
 }
 
@@ -135,7 +148,7 @@ fn main() {
             split_and_reconstruct(call, Secret::AllButTheLastBlock, random);
         });
     }
-    println!("200 messages in both forms, split and opened for every count");
+    println!("200 messages in both forms, split and opened for every count, in the earlier form also a range of each");
     (0..100).for_each(|count| write_and_look_up(count, &mut random));
     println!("archives of up to 99 shares, written and taken apart");
     if argument == "control" {

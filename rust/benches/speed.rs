@@ -1,8 +1,8 @@
 //! What splitting and reconstructing cost: the proved library in both forms of message, an obvious program with tables, and
-//! libgfshare where it is installed; and what archives cost, beside copying. All take turns in one process. What the check
-//! of a scheme costs comes last, and alone with the argument `check`:
+//! libgfshare where it is installed; and what archives cost, beside copying. All take turns in one process. What a range of a
+//! message costs and what the check of a scheme costs come last, and alone with the arguments `range` and `check`:
 //!
-//!     cargo bench --offline --manifest-path rust/Cargo.toml --bench speed -- check
+//!     cargo bench --offline --manifest-path rust/Cargo.toml --bench speed -- range
 
 use gilunavoi::cases::{parties, Call, Form, Scheme, FORMS};
 use gilunavoi::limits::MAX_MESSAGE;
@@ -25,6 +25,8 @@ mod gfshare;
 mod growth;
 #[path = "speed/measure.rs"]
 mod measure;
+#[path = "speed/range.rs"]
+mod range;
 #[path = "speed/tables.rs"]
 mod tables;
 
@@ -168,11 +170,18 @@ the same call for padded messages, best turn, and how many times those of the fi
 faster than libgfshare
 ";
 
+type Table = fn(&mut Random) -> String;
+
+/// The tables that an argument asks for alone.
+const LAST_TABLES: [(&str, Table); 2] = [("range", range::table), ("check", check::table)];
+
 fn main() {
     let mut random = Random::new(1);
     // Cargo adds an argument of its own.
-    if std::env::args().any(|argument| argument == "check") {
-        return print!("{}", check::table(&mut random));
+    for (name, table) in LAST_TABLES {
+        if std::env::args().any(|argument| argument == name) {
+            return print!("{}", table(&mut random));
+        }
     }
     let mut all: Vec<Task> = Vec::new();
     for length in [1, 100, 1 << 10, MAX_MESSAGE] {
@@ -204,5 +213,5 @@ fn main() {
     println!("\nhow the cost grows, microseconds a call, best turns: split / reconstruct for the lowest count");
     series.iter().for_each(|series| println!("{}", series.line()));
     print!("\n{}", archive::table(&archives));
-    print!("\n{}", check::table(&mut random));
+    LAST_TABLES.iter().for_each(|(_, table)| print!("\n{}", table(&mut random)));
 }

@@ -54,3 +54,13 @@ pub fn reconstruct_default(call: &Call, prefixes: &[u8], out: &mut [u8]) -> Padd
         Form::Padded => library::reconstruct_padded_default(&call.parties, prefixes, out),
     }
 }
+
+/// The range of a message of the earlier form.
+pub fn reconstruct_range(call: &Call, prefixes: &[u8], out: &mut [u8]) -> Answer {
+    let (s, start, range_length) = (&call.scheme, call.start, call.range_length);
+    library::reconstruct_range(s.n, s.r, s.z, &s.counts, call.length, start, range_length, &call.parties, prefixes, out)
+}
+
+pub fn reconstruct_range_default(call: &Call, prefixes: &[u8], out: &mut [u8]) -> Answer {
+    library::reconstruct_range_default(call.length, call.start, call.range_length, &call.parties, prefixes, out)
+}

@@ -63,6 +63,27 @@ impl Default for Scheme {
     }
 }
 
+/// The schemes of these n, r, z and counts.
+pub fn accepted<const MANY: usize>(schemes: [(u8, u8, u8, &[u8]); MANY]) -> [Scheme; MANY] {
+    schemes.map(|(n, r, z, counts)| Scheme::new(n, r, z, counts.to_vec()).expect("an accepted scheme"))
+}
+
+/// One to three colluding parties and fifteen, neighbouring counts and gaps, blocks of one byte, short ones and the longest.
+pub fn schemes() -> Vec<Scheme> {
+    let others = accepted([
+        (2, 0, 1, &[2]),
+        (16, 0, 15, &[16]),
+        (7, 4, 1, &[7, 4, 3]),
+        (9, 3, 1, &[9, 8, 7, 6]),
+        (10, 4, 1, &[10, 6]),
+        (6, 2, 2, &[6, 4]),
+        (9, 4, 2, &[9, 7, 5]),
+        (8, 2, 3, &[8, 6]),
+        (12, 4, 3, &[12, 9, 8]),
+    ]);
+    [&[Scheme::default(), Scheme::former_default()], &others[..]].concat()
+}
+
 /// Hands on all accepted sizes n, r and z with every list of counts that falls from at most n to n - r.
 pub fn falling_lists(mut to: impl FnMut(u8, u8, u8, Vec<u8>)) {
     for n in 2..=MAX_PARTIES {
@@ -108,10 +129,19 @@ pub const BAD_COUNTS: [fn(&mut Scheme); 10] = [
     |s| s.counts = (0..=255).rev().collect(),
 ];
 
-/// Lengths around the ends of blocks and of batches of 64 blocks.
+/// A length around the end of a block or of a batch of 64 blocks.
 pub fn length(random: &mut Random, m: usize) -> usize {
     let blocks = [0, 1, 2, 3, 63, 64, 65, 130][random.below(8)];
     (blocks * m + random.below(3)).saturating_sub(1).min(MAX_MESSAGE)
+}
+
+/// Lengths around the ends of blocks, of a batch of 64 blocks in either form, and of the longest message.
+pub fn lengths(m: usize) -> Vec<usize> {
+    let mut lengths = vec![0, 1, m - 1, m, m + 1, 63 * m, 64 * m, MAX_MESSAGE - 1, MAX_MESSAGE];
+    lengths.sort();
+    lengths.dedup();
+    lengths.retain(|&length| length <= MAX_MESSAGE);
+    lengths
 }
 
 /// d of the n parties, rising.
@@ -121,6 +151,15 @@ pub fn parties(random: &mut Random, n: u8, d: u8) -> Vec<u8> {
         all.remove(random.below(all.len()));
     }
     all
+}
+
+/// The first d parties, the last d and d drawn ones; with d = n they are the same.
+pub fn sets_of_parties(random: &mut Random, n: u8, d: u8) -> Vec<Vec<u8>> {
+    let mut sets = vec![(1..=d).collect(), (n - d + 1..=n).collect(), parties(random, n, d)];
+    sets.sort();
+    sets.dedup();
+    assert!(sets.len() >= 2 || d == n);
+    sets
 }
 
 /// The two forms of message.
@@ -162,13 +201,18 @@ pub struct Call {
     pub prefixes: usize,
     /// The opener's output: the message, in the padded form with its padding.
     pub message: usize,
+    /// The range that is asked for: the place of its first byte, and its length.
+    pub start: usize,
+    pub range_length: usize,
+    /// The output of the opener of a range.
+    pub range: usize,
     /// The place of the last byte that is not 0 in the blocks of which the readers lend prefixes, and this byte. Without it
     /// they lend drawn bytes, which no splitter wrote.
     pub end: Option<(usize, u8)>,
 }
 
 impl Call {
-    /// An accepted call: a message of this form and length, read by these parties.
+    /// An accepted call: a message of this form and length, read by these parties. The range is all of it.
     pub fn new(form: Form, scheme: &Scheme, length: usize, parties: Vec<u8>) -> Call {
         let (z, d) = (scheme.z as usize, parties.len());
         let blocks = form.blocks(length, scheme.m);
@@ -184,6 +228,9 @@ impl Call {
             share,
             prefixes: d * (scheme.m / (d - z)) * blocks,
             message: if form == Form::Padded { blocks * scheme.m } else { length },
+            start: 0,
+            range_length: length,
+            range: length,
             end: (form == Form::Padded).then_some((length, 128)),
         }
     }
@@ -192,6 +239,17 @@ impl Call {
     pub fn drawn(random: &mut Random, form: Form, scheme: &Scheme, length: usize) -> Call {
         let d = scheme.counts[random.below(scheme.counts.len())];
         Call::new(form, scheme, length, parties(random, scheme.n, d))
+    }
+
+    /// The same with another range.
+    pub fn with_range(&self, start: usize, range_length: usize) -> Call {
+        Call { start, range_length, range: range_length, ..self.clone() }
+    }
+
+    /// The same with a range of the message drawn.
+    pub fn with_drawn_range(&self, random: &mut Random) -> Call {
+        let start = random.below(self.length + 1);
+        self.with_range(start, random.below(self.length - start + 1))
     }
 
     /// What the parties of an accepted call send of the shares, which stand one after another.

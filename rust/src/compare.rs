@@ -7,6 +7,7 @@ use crate::{calls, library, reference};
 use std::fmt::Debug;
 
 pub mod archive;
+pub mod range;
 
 /// On what the two agree: that the call is accepted, or its refusal.
 pub type Agreed = Result<(), u64>;

@@ -202,6 +202,63 @@ pub fn reconstruct_default(length: usize, parties: &[u8], prefixes: &[u8], out: 
     })
 }
 
+/// Opens the bytes from `start` on, `range_length` of them, into `out`.
+#[allow(clippy::too_many_arguments)]
+pub fn reconstruct_range(
+    n: u8,
+    r: u8,
+    z: u8,
+    counts: &[u8],
+    length: usize,
+    start: usize,
+    range_length: usize,
+    parties: &[u8],
+    prefixes: &[u8],
+    out: &mut [u8],
+) -> Answer {
+    answer(unsafe {
+        boundary::sharing_reconstruct_range(
+            n,
+            r,
+            z,
+            counts.as_ptr(),
+            counts.len(),
+            length,
+            start,
+            range_length,
+            parties.as_ptr(),
+            parties.len(),
+            prefixes.as_ptr(),
+            prefixes.len(),
+            out.as_mut_ptr(),
+            out.len(),
+        )
+    })
+}
+
+pub fn reconstruct_range_default(
+    length: usize,
+    start: usize,
+    range_length: usize,
+    parties: &[u8],
+    prefixes: &[u8],
+    out: &mut [u8],
+) -> Answer {
+    answer(unsafe {
+        boundary::sharing_reconstruct_range_default(
+            length,
+            start,
+            range_length,
+            parties.as_ptr(),
+            parties.len(),
+            prefixes.as_ptr(),
+            prefixes.len(),
+            out.as_mut_ptr(),
+            out.len(),
+        )
+    })
+}
+
 pub fn prefix_padded(n: u8, r: u8, z: u8, counts: &[u8], d: usize, share: &[u8]) -> Answer {
     answer(unsafe {
         boundary::sharing_prefix_padded(n, r, z, counts.as_ptr(), counts.len(), d, share.as_ptr(), share.len())

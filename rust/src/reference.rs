@@ -7,6 +7,7 @@
 use std::sync::OnceLock;
 
 pub mod archive;
+pub mod range;
 
 /// The limits of the rules' document, apart from those that the library's users are told.
 const MOST_PARTIES: i32 = 16;
@@ -107,18 +108,16 @@ fn first_refusal(refusals: &[(bool, u64)]) -> Result<(), u64> {
 }
 
 /// The rows of a block, each the list of its coefficients, by the literal lists of the rules: group 1
-/// holds the block's bytes in order, and each later group what the rows before it lose.
-fn rows(z: usize, counts: &[u8], block: &[u8], keys: &[u8]) -> Vec<Vec<u8>> {
+/// holds the block's bytes in order, and each later group what the rows before it lose. What stands for
+/// the bytes and the keys may be anything.
+fn rows<T: Copy>(z: usize, counts: &[u8], block: &[T], keys: &[T]) -> Vec<Vec<T>> {
     let m = block.len();
-    let mut rows: Vec<Vec<u8>> = Vec::new();
+    let mut rows: Vec<Vec<T>> = Vec::new();
     let mut above = 0;
     for (group, &d) in counts.iter().enumerate() {
         let d = d as usize;
-        let list: Vec<u8> = if group == 0 {
-            block.to_vec()
-        } else {
-            rows.iter().flat_map(|row| row[d..above].to_vec()).collect()
-        };
+        let list: Vec<T> =
+            if group == 0 { block.to_vec() } else { rows.iter().flat_map(|row| row[d..above].to_vec()).collect() };
         for rest in list.chunks(d - z) {
             let first_key = rows.len() * z;
             let mut row = keys[first_key..first_key + z].to_vec();
@@ -315,7 +314,30 @@ fn blocks_of_prefixes(m: usize, z: usize, counts: &[u8], parties: &[u8], prefixe
     (0..blocks * m).map(|place| solutions[place % m][place / m]).collect()
 }
 
-/// The bytes used, and the message.
+/// What the openers of the earlier form have in common: the bytes of a range of the message, which is all of it or not.
+fn open_range(
+    (n, r, z, counts): (u8, u8, u8, &[u8]),
+    length: usize,
+    (start, range_length): (usize, usize),
+    parties: &[u8],
+    prefixes: &[u8],
+    out: usize,
+) -> Result<Vec<u8>, u64> {
+    let (m, _) = sizes(n, r, z, counts)?;
+    let (d, z) = (parties.len(), z as usize);
+    first_refusal(&[(length > LONGEST_MESSAGE, 5), (!is_count(counts, d), 6), (parties_are_bad(n, parties), 7)])?;
+    let end = start as u128 + range_length as u128;
+    let blocks = length.div_ceil(m);
+    first_refusal(&[
+        (end > length as u128, 15),
+        (prefixes.len() != d * (m / (d - z)) * blocks, 9),
+        (out != range_length, 10),
+    ])?;
+    let message = blocks_of_prefixes(m, z, counts, parties, prefixes, blocks);
+    Ok(message[start..start + range_length].to_vec())
+}
+
+/// The bytes used, which are all, and the message.
 #[allow(clippy::too_many_arguments)]
 pub fn reconstruct(
     n: u8,
@@ -327,15 +349,8 @@ pub fn reconstruct(
     prefixes: &[u8],
     out: usize,
 ) -> Result<(u64, Vec<u8>), u64> {
-    let (m, _) = sizes(n, r, z, counts)?;
-    let (d, z) = (parties.len(), z as usize);
-    first_refusal(&[(length > LONGEST_MESSAGE, 5), (!is_count(counts, d), 6), (parties_are_bad(n, parties), 7)])?;
-    let blocks = length.div_ceil(m);
-    let used = d * (m / (d - z)) * blocks;
-    first_refusal(&[(prefixes.len() != used, 9), (out != length, 10)])?;
-    let mut message = blocks_of_prefixes(m, z, counts, parties, prefixes, blocks);
-    message.truncate(length);
-    Ok((used as u64, message))
+    let message = open_range((n, r, z, counts), length, (0, length), parties, prefixes, out)?;
+    Ok((prefixes.len() as u64, message))
 }
 
 /// The length of the message that these blocks are padded from.

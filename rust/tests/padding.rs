@@ -1,7 +1,7 @@
 //! The end of a padded message: where the opener finds it, and what it refuses because no padded message ends so. Both
 //! implementations are asked each time, and the output lies between guard bytes.
 
-use gilunavoi::cases::{parties, Call, Form, Scheme};
+use gilunavoi::cases::{accepted, parties, Call, Form, Scheme};
 use gilunavoi::compare::{reconstruct, Agreed};
 use gilunavoi::library;
 use gilunavoi::limits::MAX_MESSAGE;
@@ -10,9 +10,7 @@ use gilunavoi::random::Random;
 /// Blocks of 1, 2, 6 and 24 bytes, of 6 in the default scheme and of 12 in the former; one and two colluding parties; one
 /// count, neighbouring counts and gaps.
 fn schemes() -> Vec<Scheme> {
-    let schemes: [(u8, u8, u8, &[u8]); 4] =
-        [(2, 0, 1, &[2]), (3, 1, 1, &[3, 2]), (7, 4, 1, &[7, 4, 3]), (10, 4, 2, &[10, 8, 6])];
-    let others = schemes.map(|(n, r, z, counts)| Scheme::new(n, r, z, counts.to_vec()).unwrap());
+    let others = accepted([(2, 0, 1, &[2]), (3, 1, 1, &[3, 2]), (7, 4, 1, &[7, 4, 3]), (10, 4, 2, &[10, 8, 6])]);
     [&others[..], &[Scheme::default(), Scheme::former_default()]].concat()
 }
 

@@ -1,6 +1,6 @@
 //! The basis and the opener against the other implementation, and round trips, in both forms of message.
 
-use gilunavoi::cases::{all_schemes, length, parties, Call, Form, Scheme, FORMS};
+use gilunavoi::cases::{all_schemes, length, lengths, parties, schemes, sets_of_parties, Call, Form, Scheme, FORMS};
 use gilunavoi::limits::*;
 use gilunavoi::random::Random;
 use gilunavoi::{calls, compare};
@@ -109,40 +109,6 @@ fn comes_back(call: &Call, split: &Split) {
     }
 }
 
-/// n, r, z and the counts: one to three colluding parties and fifteen, neighbouring counts and gaps, blocks of one byte,
-/// short ones and the longest.
-const SCHEMES: [(u8, u8, u8, &[u8]); 11] = [
-    (DEFAULT_N, DEFAULT_R, DEFAULT_Z, &DEFAULT_COUNTS),
-    (FORMER_DEFAULT_N, FORMER_DEFAULT_R, FORMER_DEFAULT_Z, &FORMER_DEFAULT_COUNTS),
-    (2, 0, 1, &[2]),
-    (16, 0, 15, &[16]),
-    (7, 4, 1, &[7, 4, 3]),
-    (9, 3, 1, &[9, 8, 7, 6]),
-    (10, 4, 1, &[10, 6]),
-    (6, 2, 2, &[6, 4]),
-    (9, 4, 2, &[9, 7, 5]),
-    (8, 2, 3, &[8, 6]),
-    (12, 4, 3, &[12, 9, 8]),
-];
-
-/// Lengths around the ends of blocks, of a batch of 64 blocks in either form, and of the longest message.
-fn lengths(m: usize) -> Vec<usize> {
-    let mut lengths = vec![0, 1, m - 1, m, m + 1, 63 * m, 64 * m, MAX_MESSAGE - 1, MAX_MESSAGE];
-    lengths.sort();
-    lengths.dedup();
-    lengths.retain(|&length| length <= MAX_MESSAGE);
-    lengths
-}
-
-/// The first d parties, the last d and d drawn ones; with d = n they are the same.
-fn sets_of_parties(random: &mut Random, n: u8, d: u8) -> Vec<Vec<u8>> {
-    let mut sets = vec![(1..=d).collect(), (n - d + 1..=n).collect(), parties(random, n, d)];
-    sets.sort();
-    sets.dedup();
-    assert!(sets.len() >= 2 || d == n);
-    sets
-}
-
 /// Splits a message of this length for one count, with the shares that the other implementation makes too, and opens it
 /// from several sets of parties. Opens as many times what no splitter wrote, or in the padded form other messages.
 fn round_trips(random: &mut Random, form: Form, scheme: &Scheme, length: usize, d: u8) -> usize {
@@ -163,10 +129,9 @@ fn round_trips(random: &mut Random, form: Form, scheme: &Scheme, length: usize, 
 fn every_count_and_the_ends_of_blocks_and_batches() {
     let mut random = Random::new(22);
     let (mut cases, mut openings) = (0, 0);
-    for (n, r, z, counts) in SCHEMES {
-        let scheme = Scheme::new(n, r, z, counts.to_vec()).unwrap();
+    for scheme in schemes() {
         for length in lengths(scheme.m) {
-            for &d in counts {
+            for &d in &scheme.counts {
                 for form in FORMS {
                     openings += round_trips(&mut random, form, &scheme, length, d);
                     cases += 1;

@@ -2,7 +2,7 @@
 //! of the rules' table is the answer, and nothing is written.
 
 use gilunavoi::cases::{choices, Call, Form, Scheme, BAD_COUNTS, FORMS};
-use gilunavoi::compare::{self, Compare};
+use gilunavoi::compare::{self, range, Compare};
 use gilunavoi::limits::{MAX_MESSAGE, MAX_PARTIES};
 use gilunavoi::random::Random;
 
@@ -80,6 +80,23 @@ const PARTIES: [Fault; 12] = [
     (7, |c| *c.parties.last_mut().unwrap() = 255),
 ];
 
+/// Ranges that end after the message, by a byte, empty or far away. Some would pass modulo 2^32, or if the sum were taken
+/// modulo 2^64.
+const RANGES: [Fault; 12] = [
+    (15, |c| c.range_length = c.length - c.start + 1),
+    (15, |c| c.start = c.length - c.range_length + 1),
+    (15, |c| (c.start, c.range_length) = (c.length + 1, 0)),
+    (15, |c| c.start += 1 << 32),
+    (15, |c| c.range_length += 1 << 32),
+    (15, |c| c.start += 1 << 63),
+    (15, |c| c.range_length += 1 << 63),
+    (15, |c| c.start = (usize::MAX - c.range_length).saturating_add(1)),
+    (15, |c| c.range_length = (usize::MAX - c.start).saturating_add(1)),
+    (15, |c| (c.start, c.range_length) = (usize::MAX, 1)),
+    (15, |c| (c.start, c.range_length) = (1, usize::MAX)),
+    (15, |c| (c.start, c.range_length) = (usize::MAX, usize::MAX)),
+];
+
 fn one_less(length: usize) -> usize {
     length.checked_sub(1).unwrap_or(256)
 }
@@ -125,9 +142,9 @@ fn most_blocks(call: &Call) -> usize {
 }
 
 const OUTPUTS: [Fault; 3] = [
-    (10, |c| (c.shares, c.message) = (c.shares + 1, c.message + 1)),
-    (10, |c| (c.shares, c.message) = (one_less(c.shares), one_less(c.message))),
-    (10, |c| (c.shares, c.message) = (c.shares + c.scheme.b, c.message + c.scheme.m)),
+    (10, |c| (c.shares, c.message, c.range) = (c.shares + 1, c.message + 1, c.range + 1)),
+    (10, |c| (c.shares, c.message, c.range) = (one_less(c.shares), one_less(c.message), one_less(c.range))),
+    (10, |c| (c.shares, c.message, c.range) = (c.shares + c.scheme.b, c.message + c.scheme.m, c.range + c.scheme.m)),
 ];
 
 /// In the padded form also: room for the message alone, and for one block less than there are.
@@ -146,7 +163,10 @@ enum Change {
     Call(fn(&mut Call)),
 }
 
-/// Refusals 1 to 4, and then those of the call, in the order in which the rules look for them.
+/// The order in which the rules look for refusals.
+const ORDER: [u64; 12] = [1, 2, 3, 4, 5, 6, 7, 8, 15, 9, 10, 11];
+
+/// Refusals 1 to 4, and then those of the call, in their order.
 fn faults(of_the_call: &[&[Fault]]) -> Vec<(u64, Change)> {
     let counts = BAD_COUNTS.map(|change| (3, change));
     let of_the_scheme = SIZES.into_iter().chain(counts).chain(BLOCKS);
@@ -154,11 +174,11 @@ fn faults(of_the_call: &[&[Fault]]) -> Vec<(u64, Change)> {
     for part in of_the_call {
         faults.extend(part.iter().map(|&(number, change)| (number, Change::Call(change))));
     }
-    assert!(faults.is_sorted_by_key(|&(number, _)| number));
+    assert!(faults.is_sorted_by_key(|&(number, _)| ORDER.iter().position(|&next| next == number)));
     faults
 }
 
-/// Accepted calls: the default scheme with messages of some lengths, and drawn schemes.
+/// Accepted calls: the default scheme with messages of some lengths, and drawn schemes. The range is drawn, too.
 fn accepted_calls(random: &mut Random, form: Form) -> Vec<Call> {
     let mut calls: Vec<Call> = [0, 1, 100].map(|length| Call::drawn(random, form, &Scheme::default(), length)).into();
     for _ in 0..5 {
@@ -166,7 +186,7 @@ fn accepted_calls(random: &mut Random, form: Form) -> Vec<Call> {
         let length = random.below(2 * scheme.m + 1);
         calls.push(Call::drawn(random, form, &scheme, length));
     }
-    calls
+    calls.iter().map(|call| call.with_drawn_range(random)).collect()
 }
 
 /// Puts every choice of faults into accepted calls.
@@ -231,6 +251,12 @@ fn of_the_opener() {
 }
 
 #[test]
+fn of_the_opener_of_ranges() {
+    let of_the_call: [&[Fault]; 5] = [&LENGTHS, &PARTIES, &RANGES, &PREFIXES, &OUTPUTS];
+    refused(49, Form::Earlier, range::reconstruct, &of_the_call);
+}
+
+#[test]
 fn of_the_padded_opener() {
     let of_the_call: [&[Fault]; 5] = [&PARTIES, &PADDED_PREFIXES, &OUTPUTS, &PADDED_OUTPUTS, &ENDINGS];
     refused(34, Form::Padded, compare::reconstruct, &of_the_call);
@@ -252,7 +278,7 @@ fn nearby_byte(random: &mut Random, byte: u8) -> u8 {
 fn damage(call: &mut Call, random: &mut Random) {
     let scheme = &mut call.scheme;
     let parties = &mut call.parties;
-    match random.below(15) {
+    match random.below(17) {
         0 => scheme.n = nearby_byte(random, scheme.n),
         1 => scheme.r = nearby_byte(random, scheme.r),
         2 => scheme.z = nearby_byte(random, scheme.z),
@@ -267,20 +293,29 @@ fn damage(call: &mut Call, random: &mut Random) {
         11 => call.share = nearby(random, call.share),
         12 => call.prefixes = nearby(random, call.prefixes),
         13 => call.end = call.end.map(|(place, byte)| (nearby(random, place), nearby_byte(random, byte))),
-        _ => (call.shares, call.message) = (nearby(random, call.shares), nearby(random, call.message)),
+        14 => call.start = nearby(random, call.start),
+        15 => call.range_length = nearby(random, call.range_length),
+        _ => {
+            for output in [&mut call.shares, &mut call.message, &mut call.range] {
+                *output = nearby(random, *output);
+            }
+        }
     }
 }
 
 #[test]
 fn drawn_damage() {
     let mut random = Random::new(21);
-    let operations: [Compare; 4] = [compare::split, compare::prefix, compare::basis, compare::reconstruct];
+    let operations: [Compare; 5] =
+        [compare::split, compare::prefix, compare::basis, compare::reconstruct, range::reconstruct];
     for form in FORMS {
-        let mut outcomes = [[0; 12]; 4];
+        // Padded messages have no ranges.
+        let operations = &operations[..if form == Form::Padded { 4 } else { 5 }];
+        let mut outcomes = vec![[0; 16]; operations.len()];
         for case in 0..30_000 {
             let scheme = if case % 4 == 0 { Scheme::default() } else { Scheme::drawn(&mut random, 24) };
             let length = random.below(3 * scheme.m + 1);
-            let mut call = Call::drawn(&mut random, form, &scheme, length);
+            let mut call = Call::drawn(&mut random, form, &scheme, length).with_drawn_range(&mut random);
             for _ in 0..1 + random.below(3) {
                 damage(&mut call, &mut random);
             }

@@ -31,6 +31,16 @@ fn reconstruct(parties: &[u8], prefixes: &[u8]) -> (u64, Vec<u8>) {
     (used, out)
 }
 
+/// Opens a range of them: the bytes used, and the range.
+fn reconstruct_range(start: usize, length: usize, parties: &[u8], prefixes: &[u8]) -> Result<(u64, Vec<u8>), u64> {
+    let mut out = vec![0; length.min(2)];
+    let expected = reference::range::reconstruct(3, 1, 1, &[3, 2], 2, start, length, parties, prefixes, out.len());
+    let used = library::reconstruct_range(3, 1, 1, &[3, 2], 2, start, length, parties, prefixes, &mut out);
+    let answer = used.map(|used| (used, out));
+    assert_eq!(answer, expected);
+    answer
+}
+
 /// Opens padded blocks of two bytes: the bytes used, the length of the message, and the blocks.
 fn reconstruct_padded(parties: &[u8], prefixes: &[u8], blocks: usize) -> ((u64, u64), Vec<u8>) {
     let mut out = vec![0; 2 * blocks];
@@ -70,6 +80,20 @@ fn shares_and_messages() {
     assert_eq!(split(&[5, 7, 1], &[9, 4, 2, 6], 12)[..4], [11, 3, 3, 6]);
     assert_eq!(reconstruct(&[1, 2, 3], &[11, 31, 29]), (3, vec![5, 7]));
     assert_eq!(reconstruct(&[1, 3], &[11, 3, 29, 13]), (4, vec![5, 7]));
+}
+
+/// Two parties' row 4 + 7x comes first and has the second byte: the other row, which has both, may be anything. Three
+/// parties send this one alone.
+#[test]
+fn ranges() {
+    assert_eq!(reconstruct_range(1, 1, &[1, 3], &[0, 3, 0, 13]), Ok((2, vec![7])));
+    assert_eq!(reconstruct_range(0, 1, &[1, 3], &[11, 3, 29, 13]), Ok((4, vec![5])));
+    assert_eq!(reconstruct_range(0, 2, &[1, 3], &[11, 3, 29, 13]), Ok((4, vec![5, 7])));
+    assert_eq!(reconstruct_range(1, 1, &[1, 2, 3], &[11, 31, 29]), Ok((3, vec![7])));
+    assert_eq!(reconstruct_range(2, 0, &[1, 2, 3], &[0, 0, 0]), Ok((0, vec![])));
+    for (start, length) in [(1, 2), (2, 1), (3, 0), (usize::MAX, 1), (usize::MAX, 3), (1, usize::MAX)] {
+        assert_eq!(reconstruct_range(start, length, &[1, 2, 3], &[11, 31, 29]), Err(15));
+    }
 }
 
 /// Worked out by hand. Of one byte: the rows 9 + 5x + 128x² and 4 + 128x. A message that fills its blocks has one more,

@@ -3,7 +3,8 @@
 use mathlib.Core.Path.{_≡_, refl}
 use mathlib.Core.List.{[], _∷_}
 use Rattle.scheme.specs.Outcome.{accepted, firstOf, answer}
-use Rattle.scheme.specs.BlockLength.{divides, firstFrom, commonMultiple, blockLength}
+use Rattle.lists.specs.Search.{firstFrom}
+use Rattle.scheme.specs.BlockLength.{divides, commonMultiple, blockLength}
 use Rattle.scheme.specs.Check.{falls, partiesRefused, thresholdsRefused, countsRefused, blockRefused, refusal, rowsOfBlock, blockCount}
 use Rattle.scheme.specs.Padding.{paddedCount}
 use Rattle.staircase.specs.Parameters.{parameters, schemeA}

@@ -12,6 +12,7 @@ use Rattle.staircase.specs.Parameters.{Parameters}
 use Rattle.dealer.specs.Split.{splitAnswer, splitOutput}
 use Rattle.dealer.specs.SplitPadded.{splitPaddedAnswer, splitPaddedOutput}
 use Rattle.reader.specs.Basis.{basisRefusal, basisOf}
+use Rattle.reader.specs.Range.{rangeAnswer, rangeOutput}
 use Rattle.reader.specs.Reconstruct.{reconstructAnswer, reconstructOutput}
 use Rattle.reader.specs.ReconstructPadded.{reconstructPaddedAnswer, reconstructPaddedOutput}
 use Rattle.exports.specs.declared.SharingScheme.{SharingScheme}
@@ -53,7 +54,7 @@ openedFields o = o .number ∷ getD (o .values) 0 0 ∷ getD (o .values) 1 0 ∷
 unfoldable pub flattened : List (List ℕ) → List ℕ
 flattened table = tabulate (side * side) (λ k. getD (getD table (k / side) []) (k % side) 0)
 
--- the calls: the fields of the splitter's answer and its output, those of the opener's, and the number and the weights of a basis
+-- the calls: the fields of the splitter's answer and its output, those of the opener's, whole and for a range, and the number and the weights of a basis
 abbrev pub SplitFields : Parameters → List ℕ → List ℕ → List ℕ → SharingAnswer → List ℕ → Type 0
 SplitFields p message keys before a after =
     (answerFields a ≡ valueFields (splitAnswer p (length message) (length keys) (length before))) × (after ≡ splitOutput p message keys before)
@@ -62,6 +63,11 @@ abbrev pub ReconstructFields : Parameters → ℕ → List ℕ → List ℕ → 
 ReconstructFields p message parties prefixes before a after =
     (answerFields a ≡ valueFields (reconstructAnswer p message parties (length prefixes) (length before)))
     × (after ≡ reconstructOutput p message parties prefixes before)
+
+abbrev pub RangeFields : Parameters → ℕ → ℕ → ℕ → List ℕ → List ℕ → List ℕ → SharingAnswer → List ℕ → Type 0
+RangeFields p message start long parties prefixes before a after =
+    (answerFields a ≡ valueFields (rangeAnswer p message start long parties (length prefixes) (length before)))
+    × (after ≡ rangeOutput p message start long parties prefixes before)
 
 -- and those on padded messages
 abbrev pub SplitPaddedFields : Parameters → List ℕ → List ℕ → List ℕ → SharingAnswer → List ℕ → Type 0

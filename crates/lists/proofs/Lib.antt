@@ -6,6 +6,8 @@ pub mod Table
 pub mod Parts
 pub mod Each
 pub mod Search
+pub mod FirstFrom
+pub mod Members
 pub mod Without
 pub mod Fill
 pub mod Known

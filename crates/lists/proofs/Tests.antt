@@ -1,4 +1,4 @@
--- Tests joined by `&&`, choices by a test, and the two cases of an order.
+-- Tests joined by `&&` and `||`, choices by a test, and the two cases of an order.
 -- Assumes nothing.
 use mathlib.Core.Path.{_≡_, refl, sym}
 use mathlib.Core.Bool.{Bool, true, false, cond, _&&_, _||_, true≢false}
@@ -23,6 +23,18 @@ both false b e = absurd (true≢false (sym e))
 pub neither : (a b : Bool) → a || b ≡ false → (a ≡ false) × (b ≡ false)
 neither true b e = absurd (true≢false e)
 neither false b e = (refl, e)
+
+pub either : (a b : Bool) → a || b ≡ true → (a ≡ true) ⊎ (b ≡ true)
+either true b e = inl refl
+either false b e = inr e
+
+pub or-right : (a b : Bool) → b ≡ true → a || b ≡ true
+or-right true b e = refl
+or-right false b e = e
+
+pub or-assoc : (a b c : Bool) → a || (b || c) ≡ (a || b) || c
+or-assoc true b c = refl
+or-assoc false b c = refl
 
 -- what holds of both cases, each under its test, holds of the choice
 pub cond-ind {ℓ ℓ′} : {A : Type ℓ} (P : A → Type ℓ′) {t : Bool} {a b : A} → (t ≡ true → P a) → (t ≡ false → P b) → P (cond t a b)

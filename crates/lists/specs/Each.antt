@@ -21,6 +21,11 @@ unfoldable pub occurs : ℕ → List ℕ → Bool
 occurs x [] = false
 occurs x (y ∷ ys) = eqb x y || occurs x ys
 
+-- is each of these numbers in the list?
+unfoldable pub allIn : List ℕ → List ℕ → Bool
+allIn [] ys = true
+allIn (x ∷ xs) ys = occurs x ys && allIn xs ys
+
 unfoldable pub distinct : List ℕ → Bool
 distinct [] = true
 distinct (x ∷ xs) = not (occurs x xs) && distinct xs

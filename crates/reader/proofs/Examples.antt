@@ -11,7 +11,8 @@ use Rattle.gf256.specs.Byte.{_⊕_, _⊗_, cut, reduce, inverseBelow, inverse}
 use Rattle.interpolation.specs.Polynomial.{next, eval, plus, scale, linear, above, vanishing}
 use Rattle.interpolation.specs.Interpolation.{through, fitted, unit, basis, weight, basisTable}
 use Rattle.scheme.specs.Outcome.{accepted, refused, firstOf, answer}
-use Rattle.scheme.specs.BlockLength.{divides, firstFrom, commonMultiple, blockLength}
+use Rattle.lists.specs.Search.{firstFrom}
+use Rattle.scheme.specs.BlockLength.{divides, commonMultiple, blockLength}
 use Rattle.scheme.specs.Check.{falls, partiesRefused, thresholdsRefused, countsRefused, blockRefused, refusal, rowsOfCount, rowsOfBlock, blockCount}
 use Rattle.scheme.specs.Readers.{rises, within, readersRefused}
 use Rattle.scheme.specs.Padding.{paddedCount, blocksHeld}

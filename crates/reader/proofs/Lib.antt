@@ -4,12 +4,15 @@ mod Doublings
 mod Writes
 mod Readings
 mod RowStep
-mod LaterRows
+mod CountedScheme
 mod RowOrder
-mod GroupOrder
+mod TurnSearch
 mod Reading
+mod NotTaken
 mod EndSearch
 mod OpenerAnswers
 mod PaddedAnswers
+mod RangeAnswers
+mod RangeLaws
 pub mod Examples
 pub mod Laws

@@ -1,6 +1,6 @@
 -- What the opener of padded messages answers and writes past its first refusals, and that the code's products fit.
 -- Assumes nothing.
-use mathlib.Core.Path.{_≡_, sym, ap, _∙_}
+use mathlib.Core.Path.{_≡_, refl, sym, ap, _∙_}
 use mathlib.Core.Bool.{true, false}
 use mathlib.Core.List.{List, [], _∷_}
 use mathlib.Core.Logic.{⊎-elim}
@@ -27,10 +27,13 @@ use Rattle.staircase.specs.Exactness.{prefixBytes, openedString}
 use Rattle.reader.specs.declared.ending.End.{End}
 use Rattle.reader.specs.declared.ending.End.the-variants.{At, Missing}
 use Rattle.reader.specs.declared.ending.Ending.the-variants.{Sought}
-use Rattle.reader.specs.Decoding.{sentBytes}
-use Rattle.reader.specs.Ending.{FoundEnd, OpenedBy, OpeningFits}
+use Rattle.reader.specs.declared.taking.Take.the-variants.{All}
+use Rattle.reader.specs.Decoding.{sentBytes, Counted}
+use Rattle.reader.specs.Ending.{FoundEnd, OpenedBy, TurnsReach, OpeningFits}
 use Rattle.reader.specs.ReconstructPadded.{blocksSent, openedPadded, reconstructPaddedRefusal, reconstructPaddedAnswer, reconstructPaddedOutput}
 use Rattle.reader.proofs.OpenerAnswers.{m-most, m-some, used-are}
+use Rattle.reader.proofs.CountedScheme.{counted-of}
+use Rattle.reader.proofs.RangeAnswers.{turns-reach}
 use Rattle.reader.proofs.Reading.{opened-long}
 
 -- the blocks that a length tells are no longer than the longest message and a block
@@ -85,19 +88,26 @@ module _ {p : Parameters} {s : Scheme} {parties prefixes : List ℕ} {N : ℕ} (
   unfolding prefixBytes
   prefixes-long = told .0 ∙ mul-comm N (d * prefixRows p d) ∙ sym (used-are p s (T .scheme) d N)
 
-  pub sought-fits : (out : List ℕ) → length out ≡ N * s .block → OpeningFits s d N prefixes Sought out
+  pub sought-fits : (out : List ℕ) → length out ≡ N * s .block → OpeningFits s d N prefixes Sought 0 out
   sought-fits out same =
       record {
         blocks-high = omega (arith, told .1, padded-count-few (block p) maxMessage (le-refl maxMessage));
         room = size-small p s (T .scheme) d (length prefixes) N (T .N-is);
         prefixes-long = prefixes-long;
-        covered = rw same (le-refl _);
-        block = T .some;
+        covered = omega arith;
+        end = (T .some, refl, same);
       }
+
+  pub counted-told : Counted s (p .counts) d
+  counted-told = counted-of (T .scheme) (T .count)
+
+  -- P rows are all, and reach the blocks
+  pub sought-turns : (P out : ℕ) → P ≡ rowsOfCount (s .block) (p .z) d → TurnsReach s (p .counts) d P 0 out
+  sought-turns P out P-is = turns-reach counted-told All 0 out P (rw (T .scheme .z-is) P-is)
 
   -- ---- what was opened
 
-  module _ (out : List ℕ) (end : End) (w : List ℕ) (O : OpenedBy Sought (s .block) (openedString (parametersOf s (p .counts)) parties N prefixes) out end w) where
+  module _ (out : List ℕ) (end : End) (w : List ℕ) (O : OpenedBy Sought (s .block) 0 (openedString (parametersOf s (p .counts)) parties N prefixes) out end w) where
     opened-is : openedString (parametersOf s (p .counts)) parties N prefixes ≡ openedPadded p parties prefixes
     unfolding openedPadded
     opened-is = rw (T .scheme .n-is, T .scheme .r-is, T .scheme .z-is, T .N-is)
@@ -119,13 +129,13 @@ module _ {p : Parameters} {s : Scheme} {parties prefixes : List ℕ} {N : ℕ} (
     ends-within message e = (rw e at found-end) .0
 
     -- an end: it is answered, with the prefix bytes used, and the blocks are written
-    pub opens-padded : (used message : ℕ) → used ≡ sentBytes s d N → end ≡ At message → length out ≡ N * s .block
+    pub opens-padded : (used P message : ℕ) → P ≡ rowsOfCount (s .block) (p .z) d → used ≡ d * (P * N) → end ≡ At message → length out ≡ N * s .block
         → reconstructPaddedRefusal p parties prefixes (length out) ≡ 0
         → (accepted (used ∷ message ∷ []) ≡ reconstructPaddedAnswer p parties prefixes (length out)) × (w ≡ reconstructPaddedOutput p parties prefixes out)
     unfolding reconstructPaddedAnswer reconstructPaddedOutput
-    opens-padded used message used-is e same none =
+    opens-padded used P message P-is used-is e same none =
         let place : message ≡ endPlace (block p) (blocksSent p d (length prefixes)) (openedPadded p parties prefixes) = (rw e at found-end) .1 in
-        let bytes : used ≡ prefixBytes p d (blocksSent p d (length prefixes)) = used-is ∙ used-are p s (T .scheme) d N ∙ ap (prefixBytes p d) (T .N-is) in
+        let bytes : used ≡ prefixBytes p d (blocksSent p d (length prefixes)) = used-is ∙ ap (λ (x : ℕ). d * (x * N)) (rw (T .scheme .z-is) P-is) ∙ used-are p s (T .scheme) d N ∙ ap (prefixBytes p d) (T .N-is) in
         let copied : w ≡ openedPadded p parties prefixes = O .output-is ∙ rw e (take-all (length out) _ (omega (arith, long, same)) ∙ opened-is) in (
           rw (place, bytes) (sym (answer-none _ _ none)),
           copied ∙ rw none,

@@ -86,13 +86,23 @@ module _ (s : Scheme) (ds : List ℕ) (S : SchemeIs s (s .n) (s .r) (s .z) ds) (
   unfolding openedString staircase
   opened-long prefixes = rw (S .block-is) (exact p (S .passed) parties counted (right .0) (right .1) N .bytes prefixes .0)
 
+  -- some keys turn them into the prefixes
+  pub opened-sent : (prefixes : List ℕ) → length prefixes ≡ sentBytes s d N → Each Byte prefixes
+      → (K : List ℕ) × Sent s ds d N points-of prefixes (openedString p parties N prefixes) K
+  unfolding openedString staircase
+  opened-sent prefixes long bytes =
+      let X = exact p (S .passed) parties counted (right .0) (right .1) N in
+      let found = X .exists prefixes (rw (S .block-is) at long, bytes) in
+      (found .0, sent-by prefixes (openedString p parties N prefixes) (found .0) (X .bytes prefixes) (found .1) (found .2))
+
+  -- and these are the weights for them
+  pub opened-weights : WeightsOf points-of d (getD ds 0 0) (openingTable points-of (getD ds 0 0))
+  opened-weights = weights-of (getD ds 0 0) first-most
+
   -- so what the reader's loops say of the blocks that were sent holds of the opened blocks
   pub begins : (prefixes : List ℕ) → length prefixes ≡ sentBytes s d N → Each Byte prefixes
       → (points : List ℕ) (weights : List (List ℕ)) → points ≡ points-of → weights ≡ openingTable points (getD ds 0 0)
       → (Says : List ℕ → Type 0) → EachSent s ds d N weights prefixes Says → Says (openedString p parties N prefixes)
-  unfolding openedString staircase
   begins prefixes long bytes points weights points-are weights-are Says E =
-      let X = exact p (S .passed) parties counted (right .0) (right .1) N in
-      let found = X .exists prefixes (rw (S .block-is) at long, bytes) in
-      E (openedString p parties N prefixes) (found .0) points-of (rw (weights-are, points-are) (weights-of (getD ds 0 0) first-most))
-      (sent-by prefixes (openedString p parties N prefixes) (found .0) (X .bytes prefixes) (found .1) (found .2))
+      let sent = opened-sent prefixes long bytes in
+      E (openedString p parties N prefixes) (sent .0) points-of (rw (weights-are, points-are) opened-weights) (sent .1)

@@ -1,27 +1,36 @@
--- The rows of one group, rising: what is found and what is counted before a row and after it.
+-- The rows in their turns: what is found and what is counted before a row and after it, and that the rows that reach a range give its bytes. A
+-- coefficient of degree d or more of a row stands again in a later group, whose rows have earlier turns, so it is known when the row's turn comes.
 -- Assumes nothing.
-use mathlib.Core.Path.{_≡_, sym, ap, _∙_}
-use mathlib.Core.List.{List}
-use mathlib.Core.Logic.{_⊎_, inl, inr, ⊎-elim}
-use Prim.Native.Nat.{ℕ, _+_, _-_, _*_, _≤_, _<_, zero-le}
-use native.Mathlib.Nat.{le-of-lt, zero-mul, mul-zero, add-mul, mul-add, mul-le-mul-left, mul-le-mul-right}
+use mathlib.Core.Path.{_≡_, refl, sym, ap, _∙_}
+use mathlib.Core.List.{List, _++_}
+use mathlib.Core.Logic.{⊎-elim}
+use Prim.Native.Nat.{ℕ, _+_, _-_, _*_, _/_, _%_, _≤_, _<_, zero-le}
+use native.Mathlib.Nat.{le-of-lt, zero-mul, mul-zero, zero-add, add-mul, mul-add, mul-le-mul-left, mul-le-mul-right, div-add-mod'}
 use native.Mathlib.Omega.{arith}
 use lib.Dec.{ltb}
-use lib.ListN.{length, getD}
+use lib.ListN.{length, getD, take, drop, length-append, length-drop, List·getD-append}
+use lib.Seq.{ext-getD, getD-take, getD-drop, length-take-le}
 use borrow.Author.Tests.{le-ltb}
 use Rattle.lists.specs.Each.{Each, Byte}
 use Rattle.lists.specs.Table.{tabulate}
 use Rattle.lists.proofs.Each.{each-at, each-tabulate}
-use Rattle.lists.proofs.Joined.{row-room}
+use Rattle.lists.proofs.Joined.{row-room, in-grid}
 use Rattle.lists.proofs.Table.{length-tabulate, getD-tabulate}
 use Rattle.lists.proofs.Tests.{lt-or-le, cond-ind}
+use Rattle.interpolation.specs.Interpolation.{side}
 use Rattle.scheme.specs.declared.Scheme.{Scheme}
 use Rattle.staircase.specs.Coefficients.{groupOf, countOf, origin, coefficientAt}
-use Rattle.staircase.proofs.Groups.{counts-fall, rows-most, group-is}
+use Rattle.staircase.proofs.Groups.{counts-fall}
+use Rattle.rows.specs.Origins.{originsOver}
 use Rattle.rows.specs.Sources.{RowOrigins}
+use Rattle.rows.proofs.Scheme.{row-group, row-count-high}
+use Rattle.rows.proofs.Laws.{row-origins}
+use Rattle.order.specs.ReadingOrder.{rowInTurn}
+use Rattle.order.specs.RowsTaken.{Reached}
+use Rattle.order.proofs.ReadingOrder.{order-of, turnOf, in-turn, row-in-turn-below, later-sooner}
 use Rattle.reader.specs.declared.decoding.Sizes.{Sizes}
-use Rattle.reader.specs.Decoding.{SizesFit, RowFits, WeightsOf, RowOf, HasPlaces, Solved, Solves, sentRows, rowsBefore, Input, Sent, EachSent, Found}
-use Rattle.reader.proofs.LaterRows.{before-some, before-next, A, order-of, degree-within, count-high, group-most}
+use Rattle.reader.specs.Decoding.{SizesFit, RowFits, WeightsOf, RowOf, HasPlaces, Solved, Solves, sentRows, Counted, Input, Sent, EachSent, Found}
+use Rattle.reader.proofs.CountedScheme.{A, count-in, count-high}
 
 -- the coefficients of blocks and keys that are bytes
 coefficient-byte : (m b z : ℕ) (ds B K : List ℕ) (t j e : ℕ) → Each Byte B → Each Byte K → Byte (coefficientAt m b z ds B K t j e)
@@ -31,79 +40,44 @@ coefficient-byte m b z ds B K t j e hB hK =
     (λ _. each-at Byte K ((t * b + j) * z + e) 0 (omega arith) hK)
     (λ _. each-at Byte B (t * m + origin m z ds j e) 0 (omega arith) hB)
 
--- the buffer has B's bytes at all origins of the rows of group g before j, and of those of the later groups, as far as d's
-abbrev pub Took : Scheme → List ℕ → ℕ → ℕ → ℕ → ℕ → List ℕ → List ℕ → Type 0
-Took s ds d blocks g j B w =
-    (i e t : ℕ) → ((rowsBefore s ds g ≤ i) × (i < j)) ⊎ (rowsBefore s ds (g + 1) ≤ i) → i < sentRows s d → t < blocks → s .z ≤ e → e < countOf (s .block) (s .z) ds i
-    → getD w (t * s .block + origin (s .block) (s .z) ds i e) 0 ≡ getD B (t * s .block + origin (s .block) (s .z) ds i e) 0
+-- ---- the bytes counted: those of d parties and `blocks` blocks in each turn passed
 
-module _ (s : Scheme) (ds : List ℕ) (d blocks g j : ℕ) (B w : List ℕ) where
-  -- before the first row of the group, and after its last
-  pub took-first : j ≡ rowsBefore s ds g → Found s ds d blocks (g + 1) B w → Took s ds d blocks g j B w
-  took-first e F i f t r =
-      F i f t (⊎-elim (λ (k : (rowsBefore s ds g ≤ i) × (i < j)). omega arith) (λ (k : rowsBefore s ds (g + 1) ≤ i). k) r)
+pub counted-none : (d blocks : ℕ) → 0 ≡ d * (0 * blocks)
+counted-none d blocks = rw (zero-mul, mul-zero)
 
-  pub took-last : j ≡ rowsBefore s ds (g + 1) → Took s ds d blocks g j B w → Found s ds d blocks g B w
-  took-last e T i f t l =
-      T i f t
-      (⊎-elim (λ (k : i < rowsBefore s ds (g + 1)). inl (l, omega arith)) (λ (k : rowsBefore s ds (g + 1) ≤ i). inr k) (lt-or-le i (rowsBefore s ds (g + 1))))
-
--- ---- the bytes counted in a group: those of d parties and `blocks` blocks in each row passed
-
-pub counted-none : (d blocks used from : ℕ) → used ≡ used + d * ((from - from) * blocks)
-counted-none d blocks used from =
-    let none : from - from ≡ 0 = omega arith in
-    rw (none, zero-mul, mul-zero) (omega arith)
-
-pub counted-more : (d blocks used used₀ from end j most : ℕ) → from ≤ j → j < end → used ≡ used₀ + d * ((j - from) * blocks)
-    → used₀ + d * ((end - from) * blocks) ≤ most
-    → (used + d * blocks ≡ used₀ + d * ((j + 1 - from) * blocks)) × (used + d * blocks ≤ most)
-counted-more d blocks used used₀ from end j most lo hi e h =
-    let next : j + 1 - from ≡ j - from + 1 = omega arith in
-    let row : (j - from + 1) * blocks ≡ (j - from) * blocks + blocks = omega (arith, add-mul (j - from) 1 blocks) in
-    let more : d * ((j + 1 - from) * blocks) ≡ d * ((j - from) * blocks) + d * blocks
-    = rw (next, row) (mul-add d ((j - from) * blocks) blocks) in
-    let within : j + 1 - from ≤ end - from = omega arith in
+pub counted-more : (d blocks used u P most : ℕ) → u < P → used ≡ d * (u * blocks) → d * (P * blocks) ≤ most
+    → (used + d * blocks ≡ d * ((u + 1) * blocks)) × (used + d * blocks ≤ most)
+counted-more d blocks used u P most h e fits =
+    let turn : (u + 1) * blocks ≡ u * blocks + blocks = omega (arith, add-mul u 1 blocks) in
+    let more : d * ((u + 1) * blocks) ≡ d * (u * blocks) + d * blocks = rw turn (mul-add d (u * blocks) blocks) in
+    let within : u + 1 ≤ P = omega arith in
     (omega arith, omega (arith, mul-le-mul-left d (mul-le-mul-right blocks within)))
 
--- the same in other names of the numbers
-module _ (d blocks used : ℕ) {from end from′ end′ : ℕ} (e : from ≡ from′) (f : end ≡ end′) where
-  pub counted-within : {most : ℕ} → used + d * ((end′ - from′) * blocks) ≤ most → used + d * ((end - from) * blocks) ≤ most
-  counted-within h = rw (e, f) h
+-- ---- the row j of turn u, in the code's numbers: of the P rows of d
 
-  pub counted-all : used + d * ((end - from) * blocks) ≡ used + d * ((end′ - from′) * blocks)
-  counted-all = rw (e, f)
-
--- ---- row j of the group g, in the code's numbers: P rows of d, and the group's rows from `from` to `end` - 1
-
-pub record RowAt (s : Scheme) (ds : List ℕ) (d blocks : ℕ) (prefixes : List ℕ) (g P from end j : ℕ) : Type 0 where
+pub record TurnAt (s : Scheme) (ds : List ℕ) (d blocks : ℕ) (prefixes : List ℕ) (P u j : ℕ) : Type 0 where
   pub input : Input s ds d blocks prefixes
-  pub group : g < length ds
-  pub above : d ≤ getD ds g 0
   pub P-is : P ≡ sentRows s d
-  pub from-is : from ≡ rowsBefore s ds g
-  pub end-is : end ≡ rowsBefore s ds (g + 1)
-  pub low : from ≤ j
-  pub high : j < end
+  pub here : u < sentRows s d
+  pub row-is : j ≡ rowInTurn (s .block) (s .z) ds d u
 
-module _ {s : Scheme} {ds : List ℕ} {d blocks : ℕ} {prefixes : List ℕ} {g P from end j : ℕ} (R : RowAt s ds d blocks prefixes g P from end j) where
-  own : j < sentRows s (getD ds g 0)
-  own = omega (arith, R .high, R .end-is, before-next s ds g)
+module _ {s : Scheme} {ds : List ℕ} {d blocks : ℕ} {prefixes : List ℕ} {P u j : ℕ} (R : TurnAt s ds d blocks prefixes P u j) where
+  C : Counted s ds d
+  C = R .input .counted
+
+  -- the number of its coefficients
+  abbrev pub top : ℕ
+  top = countOf (s .block) (s .z) ds j
 
   row-inside : j < sentRows s d
-  row-inside = omega (arith, R .high, R .end-is, group-most (R .input) g (R .group) (R .above))
+  row-inside = rw (R .row-is) (row-in-turn-below (count-in C) u (R .here))
 
   pub row-below : j < s .rows
-  row-below = omega (arith, own, rows-most (s .n) (s .r) (s .z) ds (s .block) (s .rows) (A (R .input)) g (R .group))
+  row-below = omega (arith, row-inside, order-of (count-in C) .most)
 
-  row-group : groupOf (s .block) (s .z) ds j ≡ g
-  row-group =
-      group-is (s .n) (s .r) (s .z) ds (s .block) (s .rows) (A (R .input)) g j (R .group) own
-      (λ pos. omega (arith, R .low, R .from-is, before-some s ds g pos))
-
-  pub row-count : getD ds g 0 ≡ countOf (s .block) (s .z) ds j
-  unfolding countOf
-  row-count = ap (λ (x : ℕ). getD ds x 0) (sym row-group)
+  -- the origins of its coefficients, written over 16 places
+  pub row-places : (places : List ℕ) → length places ≡ side → RowOrigins (s .block) (s .z) ds j top (originsOver (s .block) (s .z) ds j places)
+  row-places places long = row-origins s ds (C .scheme) j row-below places long
 
   -- the sizes of what is read
   abbrev pub sizes : Sizes
@@ -112,77 +86,123 @@ module _ {s : Scheme} {ds : List ℕ} {d blocks : ℕ} {prefixes : List ℕ} {g 
   pub sizes-fit : SizesFit sizes prefixes
   sizes-fit =
       record {
-        z-low = le-of-lt (order-of (R .input) .above);
-        d-high = count-high (R .input);
-        block-high = A (R .input) .limit;
+        z-low = le-of-lt (order-of (count-in C) .above);
+        d-high = count-high C;
+        block-high = A C .limit;
         blocks-high = R .input .blocks-high;
         prefixes-long = R .input .prefixes-long ∙ ap (λ (x : ℕ). d * (x * blocks)) (sym (R .P-is));
       }
 
   -- the weights for the largest count are also those for the row's
-  row-weights : {points : List ℕ} {weights : List (List ℕ)} → WeightsOf points d (getD ds 0 0) weights → WeightsOf points d (getD ds g 0) weights
+  pub row-weights : {points : List ℕ} {weights : List (List ℕ)} → WeightsOf points d (getD ds 0 0) weights → WeightsOf points d top weights
+  unfolding countOf
   row-weights W =
       record {
         long = W .long;
         bytes = W .bytes;
         distinct = W .distinct;
         parties = W .parties;
-        known = λ i e low high. W .known i e low (omega (arith, counts-fall (s .n) (s .r) (s .z) ds (s .block) (s .rows) (A (R .input)) 0 g zero-le (R .group)));
+        known = λ i e low high.
+            W .known i e low
+            (omega (arith, counts-fall (s .n) (s .r) (s .z) ds (s .block) (s .rows) (A C) 0 (groupOf (s .block) (s .z) ds j) zero-le (row-group s ds (C .scheme) j row-below)));
       }
 
-  module _ {places : List ℕ} (O : RowOrigins (s .block) (s .z) ds j (getD ds g 0) places) where
-    pub row-fits : RowFits sizes (getD ds g 0) (j * blocks) places
+  module _ {places : List ℕ} (O : RowOrigins (s .block) (s .z) ds j top places) where
+    pub row-fits : RowFits sizes top (j * blocks) places
     row-fits =
         record {
-          top-low = R .above;
-          top-high = omega (arith, A (R .input) .high g (R .group), A (R .input) .sizes .parties-high);
+          top-low = order-of (count-in C) .wide j row-inside;
+          top-high = row-count-high s ds (C .scheme) j row-below;
           inside = row-room j P blocks (omega (arith, row-inside, R .P-is));
           places-low = O .below;
         }
 
     -- the row of each block of B
-    row-sent : (B K points : List ℕ) → Sent s ds d blocks points prefixes B K → RowOf sizes (getD ds g 0) (j * blocks) places points prefixes B
+    pub row-values : (B K points : List ℕ) → Sent s ds d blocks points prefixes B K → RowOf sizes top (j * blocks) places points prefixes B
     unfolding coefficientAt
-    row-sent B K points X =
+    row-values B K points X =
         record {
-          row = λ t. tabulate (countOf (s .block) (s .z) ds j) (coefficientAt (s .block) (s .rows) (s .z) ds B K t j);
-          long = λ t h. length-tabulate {A = ℕ} (countOf (s .block) (s .z) ds j) _ ∙ sym row-count;
+          row = λ t. tabulate top (coefficientAt (s .block) (s .rows) (s .z) ds B K t j);
+          long = λ t h. length-tabulate {A = ℕ} top _;
           bytes = λ t h.
-              each-tabulate Byte (countOf (s .block) (s .z) ds j) _
+              each-tabulate Byte top _
               (λ e l. coefficient-byte (s .block) (s .rows) (s .z) ds B K t j e (X .blocks-are .1) (X .keys-are .1));
-          message = λ t e h low high.
-              getD-tabulate {A = ℕ} (countOf (s .block) (s .z) ds j) _ e 0 (rw (← row-count) high)
-              ∙ rw (le-ltb e (s .z) low, O .is e low high);
+          message = λ t e h low high. getD-tabulate {A = ℕ} top _ e 0 high ∙ rw (le-ltb e (s .z) low, O .is e low high);
           sent = λ t a h l. rw (R .P-is) (X .rows j t a row-inside h l);
         }
 
-    module _ (B w : List ℕ) (T : Took s ds d blocks g j B w) where
+    module _ (B w : List ℕ) (F : Found s ds d blocks u B w) where
       -- what the row's loop needs is in the buffer
-      row-known : HasPlaces 0 blocks (s .block) d (getD ds g 0) places B w
+      pub row-known : HasPlaces 0 blocks (s .block) d top places B w
       row-known t e a b low high =
-          let F = order-of (R .input) .again j e row-inside low (rw (← row-count) high) in
-          let same : origin (s .block) (s .z) ds (F .row) (F .degree) ≡ getD places e 0
-          = F .is ∙ sym (O .is e (omega (arith, order-of (R .input) .above)) high) in
-          rw same at
-          (T (F .row) (F .degree) t (inr (omega (arith, F .past, ap (sentRows s) row-count, before-next s ds g)))
-          (F .within) b (F .low) (degree-within (R .input) F))
+          let S = order-of (count-in C) .again j e row-inside low high in
+          let v : ℕ = turnOf (s .block) (s .z) ds (sentRows s d) (S .row) in
+          let soon : v < u = later-sooner (count-in C) u (R .here) (S .row) (S .within) (rw (← R .row-is) (S .past)) in
+          let is : rowInTurn (s .block) (s .z) ds d v ≡ S .row = in-turn (count-in C) (S .row) (S .within) in
+          let within : S .degree < countOf (s .block) (s .z) ds (S .row) = omega (arith, S .high, order-of (count-in C) .wide (S .row) (S .within)) in
+          let same : origin (s .block) (s .z) ds (S .row) (S .degree) ≡ getD places e 0
+          = S .is ∙ sym (O .is e (omega (arith, order-of (count-in C) .above)) high) in
+          rw (is, same) at (F v (S .degree) t soon b (S .low) (rw is within))
 
       -- and it adds the row
-      row-found : (w′ : List ℕ) → Solved 0 blocks (s .block) (s .z) d places B w w′ → Took s ds d blocks g (j + 1) B w′
-      row-found w′ X i e t which below ht low high =
-          ⊎-elim (λ (k : (rowsBefore s ds g ≤ i) × (i < j + 1)).
-          ⊎-elim (λ (l : i < j). X .still _ (T i e t (inl (k .0, l)) below ht low high)) (λ (l : j ≤ i). self (omega arith)) (lt-or-le i j))
-          (λ (k : rowsBefore s ds (g + 1) ≤ i). X .still _ (T i e t (inr k) below ht low high)) which
+      pub row-found : (w′ : List ℕ) → Solved 0 blocks (s .block) (s .z) d places B w w′ → Found s ds d blocks (u + 1) B w′
+      row-found w′ X v e t h ht low high =
+          ⊎-elim (λ (l : v < u). X .still _ (F v e t l ht low high)) (λ (l : u ≤ v). self (omega arith)) (lt-or-le v u)
         where
-          self : i ≡ j → getD w′ (t * s .block + origin (s .block) (s .z) ds i e) 0 ≡ getD B (t * s .block + origin (s .block) (s .z) ds i e) 0
+          self : v ≡ u
+              → let place : ℕ = t * s .block + origin (s .block) (s .z) ds (rowInTurn (s .block) (s .z) ds d v) e in
+              getD w′ place 0 ≡ getD B place 0
           self q =
-              let within : e < getD ds g 0 = rw (row-count, ← q) high in
-              let same : getD places e 0 ≡ origin (s .block) (s .z) ds i e = rw q (O .is e low within) in
+              let row : rowInTurn (s .block) (s .z) ds d v ≡ j = rw q (sym (R .row-is)) in
+              let within : e < top = rw (← row) high in
+              let same : getD places e 0 ≡ origin (s .block) (s .z) ds (rowInTurn (s .block) (s .z) ds d v) e = rw row (O .is e low within) in
               let v : getD w′ (t * s .block + getD places e 0) 0 ≡ getD B (t * s .block + getD places e 0) 0
               = ⊎-elim (λ (k : e < d). X .new t e zero-le ht low k) (λ (k : d ≤ e). X .still _ (row-known t e zero-le ht k within)) (lt-or-le e d) in
               rw same at v
 
     -- the row's loop, for every B that has these prefixes
-    pub row-done : (w w′ : List ℕ) (weights : List (List ℕ)) → Solves sizes (getD ds g 0) (j * blocks) places weights prefixes 0 blocks w w′
-        → EachSent s ds d blocks weights prefixes (λ B. Took s ds d blocks g j B w → Took s ds d blocks g (j + 1) B w′)
-    row-done w w′ weights F B K points W X T = row-found B w T w′ (F B points (row-weights W) (row-sent B K points X) (row-known B w T))
+    pub row-done : (w w′ : List ℕ) (weights : List (List ℕ)) → Solves sizes top (j * blocks) places weights prefixes 0 blocks w w′
+        → EachSent s ds d blocks weights prefixes (λ B. Found s ds d blocks u B w → Found s ds d blocks (u + 1) B w′)
+    row-done w w′ weights X B K points W Y F = row-found B w F w′ (X B points (row-weights W) (row-values B K points Y) (row-known B w F))
+
+-- no turns are passed: nothing has to be found
+pub found-none : (s : Scheme) (ds : List ℕ) (d blocks : ℕ) (B w : List ℕ) → Found s ds d blocks 0 B w
+found-none s ds d blocks B w u e t h = absurd (omega arith)
+
+-- ---- the rows of the turns passed reach a range
+
+module _ (s : Scheme) (ds : List ℕ) (d blocks many start long : ℕ) (B w : List ℕ) (R : Reached (s .block) (s .z) ds d start long many)
+    (F : Found s ds d blocks many B w) (room : start + long ≤ blocks * s .block) (lb : length B ≡ blocks * s .block) (lw : length w ≡ blocks * s .block) where
+  -- the range's bytes
+  found-range : (k : ℕ) → k < long → getD w (start + k) 0 ≡ getD B (start + k) 0
+  found-range k h =
+      let i = in-grid (start + k) blocks (s .block) (omega arith) in
+      let S = R ((start + k) % s .block) (record { offset = k; inside = h; is = refl }) in
+      rw (S .is, div-add-mod' (start + k) (s .block)) at
+      (F (S .turn) (S .degree) ((start + k) / s .block) (S .early) (i .0) (S .low) (S .high))
+
+  -- all of them, where the range is all blocks
+  pub found-all : start ≡ 0 → long ≡ blocks * s .block → w ≡ B
+  found-all zero all =
+      ext-getD 0 w B (lw ∙ sym lb)
+      (λ k h.
+      let l : k < long = rw (lw, ← all) at h in
+      rw (zero, zero-add k) at (found-range k l))
+
+  -- what is copied out of a list that begins with them
+  pub found-copied : (rest out : List ℕ) → out ≡ take long (drop start (w ++ rest)) → out ≡ take long (drop start B)
+  found-copied rest out e =
+      let cut : length (drop start B) ≡ blocks * s .block - start = rw (length-drop, lb) in
+      let whole : long ≤ length (drop start (w ++ rest)) = rw (length-drop, length-append, lw) (omega arith) in
+      let lout : length out ≡ long = rw e (length-take-le long (drop start (w ++ rest)) whole) in
+      let lright : length (take long (drop start B)) ≡ long = length-take-le long (drop start B) (rw cut (omega arith)) in
+      ext-getD 0 out (take long (drop start B)) (lout ∙ sym lright)
+      (λ k h.
+      let l : k < long = rw lout at h in
+      let inside : start + k < length w = rw lw (omega arith) in
+      ap (λ (x : List ℕ). getD x k 0) e
+      ∙ getD-take long (drop start (w ++ rest)) k 0 l
+      ∙ getD-drop start (w ++ rest) k 0
+      ∙ List·getD-append w rest 0 (start + k) inside
+      ∙ found-range k l
+      ∙ sym (getD-take long (drop start B) k 0 l ∙ getD-drop start B k 0))

@@ -4,7 +4,7 @@
 use mathlib.Core.Path.{_≡_}
 use mathlib.Core.Bool.{true}
 use mathlib.Core.List.{List, []}
-use Prim.Native.Nat.{ℕ, zero, suc, _+_, _-_, _*_, _≤_, _<_}
+use Prim.Native.Nat.{ℕ, _+_, _-_, _*_, _≤_, _<_}
 use lib.ListN.{length, getD}
 use Rattle.lists.specs.Each.{Each, Distinct, Byte, occurs}
 use Rattle.lists.specs.Table.{tabulate}
@@ -19,6 +19,7 @@ use Rattle.scheme.specs.Limits.{maxBlock, maxBlocks}
 use Rattle.scheme.specs.Check.{rowsOfCount}
 use Rattle.family.specs.Message.{Bytes}
 use Rattle.staircase.specs.Coefficients.{countOf, origin, coefficientAt}
+use Rattle.order.specs.ReadingOrder.{rowInTurn}
 use Rattle.reader.specs.declared.decoding.Sizes.{Sizes}
 
 -- the largest number that places are counted in
@@ -64,12 +65,16 @@ pub record SizesFit (sizes : Sizes) (prefixes : List ℕ) : Type 0 where
   pub blocks-high : sizes .blocks ≤ maxBlocks
   pub prefixes-long : length prefixes ≡ sizes .d * sizes .prefix
 
+-- the places of degrees z to top − 1 are places in a block of m bytes
+abbrev pub PlacesBelow : ℕ → ℕ → ℕ → List ℕ → Type 0
+PlacesBelow z top m places = (e : ℕ) → z ≤ e → e < top → getD places e 0 < m
+
 -- a row of `top` coefficients, with their places in the block by degree, whose bytes stand from place q on in each prefix
 pub record RowFits (sizes : Sizes) (top q : ℕ) (places : List ℕ) : Type 0 where
   pub top-low : sizes .d ≤ top
   pub top-high : top ≤ side
   pub inside : q + sizes .blocks ≤ sizes .prefix
-  pub places-low : (e : ℕ) → sizes .z ≤ e → e < top → getD places e 0 < sizes .block
+  pub places-low : PlacesBelow (sizes .z) top (sizes .block) places
 
 -- the weights are those of an opening at d points, which are distinct bytes, for rows of up to `top` coefficients
 pub record WeightsOf (points : List ℕ) (d top : ℕ) (weights : List (List ℕ)) : Type 0 where
@@ -106,7 +111,7 @@ Solves sizes top q places weights prefixes s n w w′ =
     (B points : List ℕ) → WeightsOf points (sizes .d) top weights → RowOf sizes top q places points prefixes B
     → HasPlaces s n (sizes .block) (sizes .d) top places B w → Solved s n (sizes .block) (sizes .z) (sizes .d) places B w w′
 
--- ---- all rows, in the scheme s with the counts ds
+-- ---- row after row in the reader's order, in the scheme s with the counts ds
 
 -- P, the rows of a prefix for the count d
 abbrev pub sentRows : Scheme → ℕ → ℕ
@@ -116,19 +121,14 @@ sentRows s d = rowsOfCount (s .block) (s .z) d
 abbrev pub sentBytes : Scheme → ℕ → ℕ → ℕ
 sentBytes s d blocks = d * (sentRows s d * blocks)
 
--- the rows of the groups before group g, which is counted from 0
-unfoldable pub rowsBefore : Scheme → List ℕ → ℕ → ℕ
-rowsBefore s ds zero = 0
-rowsBefore s ds (suc g) = sentRows s (getD ds g 0)
-
--- the bytes that d parties send of the rows of group g
-abbrev pub groupBytes : Scheme → List ℕ → ℕ → ℕ → ℕ → ℕ
-groupBytes s ds d blocks g = d * ((rowsBefore s ds (g + 1) - rowsBefore s ds g) * blocks)
-
--- what is read: the scheme is accepted and d is one of its counts, the blocks are not too many, and there are d prefixes
-pub record Input (s : Scheme) (ds : List ℕ) (d blocks : ℕ) (prefixes : List ℕ) : Type 0 where
+-- the scheme is accepted, and d is one of its counts
+pub record Counted (s : Scheme) (ds : List ℕ) (d : ℕ) : Type 0 where
   pub scheme : SchemeIs s (s .n) (s .r) (s .z) ds
   pub count : occurs d ds ≡ true
+
+-- what is read: the blocks are not too many, and there are d prefixes
+pub record Input (s : Scheme) (ds : List ℕ) (d blocks : ℕ) (prefixes : List ℕ) : Type 0 where
+  pub counted : Counted s ds d
   pub blocks-high : blocks ≤ maxBlocks
   pub prefixes-long : length prefixes ≡ sentBytes s d blocks
 
@@ -145,13 +145,9 @@ abbrev pub EachSent : Scheme → List ℕ → ℕ → ℕ → List (List ℕ) �
 EachSent s ds d blocks weights prefixes Says =
     (B K points : List ℕ) → WeightsOf points d (getD ds 0 0) weights → Sent s ds d blocks points prefixes B K → Says B
 
--- the buffer has B's bytes at all origins of the rows of the groups from g on, as far as d's
+-- the buffer has B's bytes at all origins of the rows of the first turns, `many` of them
 abbrev pub Found : Scheme → List ℕ → ℕ → ℕ → ℕ → List ℕ → List ℕ → Type 0
-Found s ds d blocks g B w =
-    (j e t : ℕ) → rowsBefore s ds g ≤ j → j < sentRows s d → t < blocks → s .z ≤ e → e < countOf (s .block) (s .z) ds j
-    → getD w (t * s .block + origin (s .block) (s .z) ds j e) 0 ≡ getD B (t * s .block + origin (s .block) (s .z) ds j e) 0
-
--- the rows of group g were found, where those of the later groups stood in the buffer
-abbrev pub GroupFound : Scheme → List ℕ → ℕ → ℕ → ℕ → List (List ℕ) → List ℕ → List ℕ → List ℕ → Type 0
-GroupFound s ds d blocks g weights prefixes w w′ =
-    EachSent s ds d blocks weights prefixes (λ B. Found s ds d blocks (g + 1) B w → Found s ds d blocks g B w′)
+Found s ds d blocks many B w =
+    (u e t : ℕ) → u < many → t < blocks → s .z ≤ e → e < countOf (s .block) (s .z) ds (rowInTurn (s .block) (s .z) ds d u)
+    → let place : ℕ = t * s .block + origin (s .block) (s .z) ds (rowInTurn (s .block) (s .z) ds d u) e in
+    getD w place 0 ≡ getD B place 0

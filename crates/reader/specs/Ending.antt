@@ -1,14 +1,15 @@
--- How the reader's code knows where a message ends, and what it writes by that.
+-- How the reader's code knows where a message ends, and what it writes by that; what is lent for an opening, whole or of a range.
 -- Assumes nothing.
 use mathlib.Core.Path.{_≡_}
 use mathlib.Core.Bool.{true, false}
 use mathlib.Core.List.{List}
 use Prim.Native.Nat.{ℕ, _+_, _-_, _*_, _≤_, _<_}
-use lib.ListN.{length, getD, take}
+use lib.ListN.{length, getD, take, drop}
 use Rattle.scheme.specs.declared.Scheme.{Scheme}
 use Rattle.scheme.specs.Limits.{maxBlock, maxMessage, maxBlocks}
 use Rattle.family.specs.Padding.{lastNonzero, endPlace, endRefused}
-use Rattle.reader.specs.Decoding.{sentBytes}
+use Rattle.order.specs.RowsTaken.{Reached}
+use Rattle.reader.specs.Decoding.{sentRows, sentBytes}
 use Rattle.reader.specs.declared.ending.Last.{Last}
 use Rattle.reader.specs.declared.ending.End.{End}
 use Rattle.reader.specs.declared.ending.End.the-variants.{At, Missing}
@@ -39,26 +40,31 @@ abbrev pub EndBy : Ending → ℕ → List ℕ → ℕ → End → Type 0
 EndBy Told m blocks told end = end ≡ At told
 EndBy Sought m blocks told end = EndOf m blocks end
 
--- the output became the beginning of the blocks, or stayed where there is no end
-abbrev pub writtenBy : End → List ℕ → List ℕ → List ℕ
-writtenBy (At message) blocks before = take (length before) blocks
-writtenBy Missing blocks before = before
+-- the output became the blocks' bytes from `start` on, or stayed where there is no end
+abbrev pub writtenBy : End → ℕ → List ℕ → List ℕ → List ℕ
+writtenBy (At message) start blocks before = take (length before) (drop start blocks)
+writtenBy Missing start blocks before = before
 
 -- an opening: the end, and the output
-pub record OpenedBy (how : Ending) (m : ℕ) (blocks before : List ℕ) (end : End) (after : List ℕ) : Type 0 where
+pub record OpenedBy (how : Ending) (m start : ℕ) (blocks before : List ℕ) (end : End) (after : List ℕ) : Type 0 where
   pub end-is : EndBy how m blocks (length before) end
-  pub output-is : after ≡ writtenBy end blocks before
+  pub output-is : after ≡ writtenBy end start blocks before
 
--- to seek an end takes a block
-abbrev pub HasBlock : Ending → ℕ → Type 0
-HasBlock Told N = Unit {0}
-HasBlock Sought N = 0 < N
+-- to seek an end takes a block, and all of them: an output of so many bytes, from `start` on
+abbrev pub SeeksIn : Ending → ℕ → ℕ → ℕ → ℕ → Type 0
+SeeksIn Told m N start out = Unit {0}
+SeeksIn Sought m N start out = (0 < N) × (start ≡ 0) × (out ≡ N * m)
+
+-- the first turns of the reader's order, `many` of them, reach the bytes from `start` on, so many as the output has
+pub record TurnsReach (s : Scheme) (ds : List ℕ) (d many start out : ℕ) : Type 0 where
+  pub within : many ≤ sentRows s d
+  pub reached : Reached (s .block) (s .z) ds d start out many
 
 -- what is lent for an opening of N blocks by d parties: as many as a message makes, in the room that there is, with the bytes of d prefixes and an output
--- that is no longer than the blocks
-pub record OpeningFits (s : Scheme) (d N : ℕ) (prefixes : List ℕ) (how : Ending) (out : List ℕ) : Type 0 where
+-- inside the blocks
+pub record OpeningFits (s : Scheme) (d N : ℕ) (prefixes : List ℕ) (how : Ending) (start : ℕ) (out : List ℕ) : Type 0 where
   pub blocks-high : N ≤ maxBlocks
   pub room : N * s .block ≤ maxMessage + maxBlock
   pub prefixes-long : length prefixes ≡ sentBytes s d N
-  pub covered : length out ≤ N * s .block
-  pub block : HasBlock how N
+  pub covered : start + length out ≤ N * s .block
+  pub end : SeeksIn how (s .block) N start (length out)

@@ -1,6 +1,6 @@
-// The reader's loops (document 01's opener): from the prefixes of d parties to the whole blocks. Groups
-// from that of d down, their rows rising, 64 blocks side by side. Only the scheme, the lengths and the
-// weights decide a branch or an index.
+// The reader's loops (document 01's opener): from the prefixes of d parties to the whole blocks, row after
+// row in the reader's order, 64 blocks side by side. Only the scheme, the lengths, the number of rows and
+// the weights decide a branch or an index.
 ghost use mathlib.Core.Path.{_≡_};
 ghost use Prim.Native.Nat.{ℕ, _+_, _*_, _≤_, _<_};
 ghost use lib.ListN.{length, getD};
@@ -172,34 +172,22 @@ fn decode_row(
     }
 }
 
-// The number of rows of the groups before group g.
-fn rows_before(s: Scheme, counts: &[u8], g: usize) -> usize
-    requires { ⌜ g ≤ length (now counts) ⌝ }
-    ensures { λ r. ⌜ r ≡ decoding.rowsBefore s (now (counts .entry)) g ⌝ }
-{
-    if g == 0 {
-        return 0;
-    }
-    scheme::rows_of_count(s.block, s.z, counts[g - 1] as usize)
-}
-
-// The rows of group g, rising, where those of the later groups are done. A row's origins are found
-// once for all blocks.
-fn decode_group(
+// Decodes the rows of the first turns in the reader's order, `many` of them, from the prefixes of d parties, P × N bytes
+// each and one after another, into the work buffer of N whole blocks. A row's origins are found once for all blocks. The
+// answer is the number of the prefixes' bytes that were used.
+pub(crate) fn decode(
     s: Scheme,
     counts: &[u8],
     d: usize,
     blocks: usize,
-    g: usize,
+    many: usize,
     weights: [[u8; SIDE]; SIDE],
     prefixes: &[u8],
-    used: &mut usize,
     work: &mut [u8],
-)
-    requires input { ⌜ decoding.Input s (now counts) d blocks (now prefixes) × (length (now work) ≡ blocks * s .block) ⌝ }
-    requires group { ⌜ (g < length (now counts)) × (d ≤ getD (now counts) g 0) × (now used + decoding.groupBytes s (now counts) d blocks g ≤ decoding.maxUsize) ⌝ }
-    ensures counted { λ _. ⌜ now (used .exit) ≡ now (used .entry) + decoding.groupBytes s (now (counts .entry)) d blocks g ⌝ }
-    ensures found { λ _. ⌜ decoding.GroupFound s (now (counts .entry)) d blocks g weights (now (prefixes .entry)) (now (work .entry)) (now (work .exit)) ⌝ }
+) -> usize
+    requires { ⌜ decoding.Input s (now counts) d blocks (now prefixes) × (many ≤ decoding.sentRows s d) × (length (now work) ≡ blocks * s .block) ⌝ }
+    ensures counted { λ used. ⌜ used ≡ d * (many * blocks) ⌝ }
+    ensures found { λ _. ⌜ decoding.EachSent s (now (counts .entry)) d blocks weights (now (prefixes .entry)) (λ B. decoding.Found s (now (counts .entry)) d blocks many B (now (work .exit))) ⌝ }
 {
     let sizes = Sizes {
         z: s.z as usize,
@@ -208,40 +196,16 @@ fn decode_group(
         blocks,
         prefix: scheme::rows_of_count(s.block, s.z, d) * blocks,
     };
-    let end = rows_before(s, counts, g + 1);
-    let mut j = rows_before(s, counts, g);
-    while j < end {
+    let groups = order::group_number(counts, d);
+    let mut used = 0;
+    let mut turn = 0;
+    while turn < many {
+        let j = order::row_in_turn(s.block, s.z, counts, groups, turn);
         let mut places = [0usize; SIDE];
         let top = rows::row_origins(s.block, s.z, counts, j, &mut places);
         let q = j * blocks;
-        decode_row(sizes, prefixes, weights, &places, top, q, used, work);
-        j += 1;
-    }
-}
-
-// Decodes the prefixes of d parties, P × N bytes each and one after another, into the work buffer of N
-// whole blocks. The answer is the number of the prefixes' bytes that were used.
-pub(crate) fn decode(
-    s: Scheme,
-    counts: &[u8],
-    d: usize,
-    blocks: usize,
-    weights: [[u8; SIDE]; SIDE],
-    prefixes: &[u8],
-    work: &mut [u8],
-) -> usize
-    requires { ⌜ decoding.Input s (now counts) d blocks (now prefixes) × (length (now work) ≡ blocks * s .block) ⌝ }
-    ensures counted { λ used. ⌜ used ≡ decoding.sentBytes s d blocks ⌝ }
-    ensures decoded { λ _. ⌜ decoding.EachSent s (now (counts .entry)) d blocks weights (now (prefixes .entry)) (λ B. now (work .exit) ≡ B) ⌝ }
-{
-    let sent = scheme::rows_of_count(s.block, s.z, d);
-    let mut used = 0;
-    // The place after the group of d, which has the last of the rows sent: the loop over the groups starts
-    // there, downwards.
-    let mut g = rows::group_of(s.block, s.z, counts, sent - 1) + 1;
-    while 0 < g {
-        g -= 1;
-        decode_group(s, counts, d, blocks, g, weights, prefixes, &mut used, work);
+        decode_row(sizes, prefixes, weights, &places, top, q, &mut used, work);
+        turn += 1;
     }
     used
 }

@@ -47,8 +47,8 @@ pub fn reconstruct_padded(
         return PaddedAnswer::Refused(7);
     }
     let most = limits::MAX_MESSAGE / s.block + 1;
-    let sent = d * scheme::rows_of_count(s.block, z, d);
-    let blocks = padding::blocks_held(most, sent, prefixes.len());
+    let rows = scheme::rows_of_count(s.block, z, d);
+    let blocks = padding::blocks_held(most, d * rows, prefixes.len());
     let size = blocks * s.block;
     if blocks == 0 {
         return PaddedAnswer::Refused(9);
@@ -56,7 +56,17 @@ pub fn reconstruct_padded(
     if out.len() != size {
         return PaddedAnswer::Refused(10);
     }
-    let found = open(s, counts, blocks, parties, prefixes, Ending::Sought, out);
+    let found = open(
+        s,
+        counts,
+        blocks,
+        rows,
+        parties,
+        prefixes,
+        Ending::Sought,
+        0,
+        out,
+    );
     let end = found.end;
     let End::At(length) = end else {
         return PaddedAnswer::Refused(11);

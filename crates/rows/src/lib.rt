@@ -160,7 +160,7 @@ fn source_of(block: usize, z: u8, counts: &[u8], i: usize, row: usize, degree: u
 }
 
 // The count at a place, 0 past the last.
-fn count_at(counts: &[u8], i: usize) -> usize
+pub fn count_at(counts: &[u8], i: usize) -> usize
     ensures { λ d. ⌜ d ≡ getD (now (counts .entry)) i 0 ⌝ }
 {
     if i < counts.len() {

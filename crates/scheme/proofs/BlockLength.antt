@@ -14,9 +14,11 @@ use lib.ListN.{length, drop, getD}
 use lib.Seq.{drop-cons, drop-length}
 use borrow.Author.Tests.{eq-eqb, ne-eqb, eqb-true}
 use Rattle.lists.specs.Each.{Each}
+use Rattle.lists.specs.Search.{firstFrom}
 use Rattle.lists.proofs.Each.{each-imp}
+use Rattle.lists.proofs.FirstFrom.{NoneFrom, FirstFound, first-found}
 use Rattle.lists.proofs.Tests.{both}
-use Rattle.scheme.specs.BlockLength.{divides, firstFrom, commonMultiple, blockLength, Least}
+use Rattle.scheme.specs.BlockLength.{divides, commonMultiple, blockLength, Least}
 
 -- the test says what it is to say
 pub divides-each : (z : ℕ) (ds : List ℕ) (x : ℕ) → divides z ds x ≡ true → Each (λ d. d - z ∣ x) ds
@@ -52,45 +54,12 @@ multiple-positive z (d ∷ ds) h =
 divided-above : (z : ℕ) (ds : List ℕ) (x : ℕ) → 0 < x → Each (λ d. d - z ∣ x) ds → Each (λ d. z < d) ds
 divided-above z ds x p h = each-imp (λ d. d - z ∣ x) (λ d. z < d) (λ d divides. omega (arith, pos-of-dvd-of-pos divides p)) ds h
 
--- every d − z divides none of the numbers from x up to y
-abbrev NoneFrom : ℕ → List ℕ → ℕ → ℕ → Type 0
-NoneFrom z ds x y = (k : ℕ) → x ≤ k → k < y → divides z ds k ≡ false
-
--- what the search over `many` numbers from x up finds
-record Found (z : ℕ) (ds : List ℕ) (many x y : ℕ) : Type 0 where
-  low : x ≤ y
-  high : y ≤ x + many
-  here : y < x + many → divides z ds y ≡ true
-  before : NoneFrom z ds x y
-
 module _ (z : ℕ) (ds : List ℕ) where
-  later : (many x y : ℕ) → divides z ds x ≡ false → Found z ds many (x + 1) y → Found z ds (suc many) x y
-  later many x y e f =
-      record {
-        low = omega (arith, f .low);
-        high = omega (arith, f .high);
-        here = λ h. f .here (omega arith);
-        before = λ k a b. ⊎-elim (λ s. rw (← s) e) (λ s. f .before k (omega arith) b) (eq-or-lt-of-le a);
-      }
-
-  found-by : (many x y : ℕ) (t : Bool) → divides z ds x ≡ t → Found z ds many (x + 1) y → Found z ds (suc many) x (cond t x y)
-  found-by many x y true e f =
-      record { low = omega arith; high = omega arith; here = λ h. e; before = λ k a b. absurd (let no : ⊥ = omega arith in no) }
-  found-by many x y false e f = later many x y e f
-
-  found : (many x : ℕ) → Found z ds many x (firstFrom z ds many x)
-  unfolding firstFrom
-  found zero x =
-      record {
-        low = omega arith;
-        high = omega arith;
-        here = λ h. absurd (let no : ⊥ = omega arith in no);
-        before = λ k a b. absurd (let no : ⊥ = omega arith in no);
-      }
-  found (suc many) x = found-by many x _ (divides z ds x) refl (found many (x + 1))
+  found : (many x : ℕ) → FirstFound (divides z ds) many x (firstFrom (divides z ds) many x)
+  found = first-found (divides z ds)
 
   -- a number that is divided is at or past the end of those of which none is
-  past : (m x : ℕ) → NoneFrom z ds 1 m → 0 < x → Each (λ d. d - z ∣ x) ds → m ≤ x
+  past : (m x : ℕ) → NoneFrom (divides z ds) 1 m → 0 < x → Each (λ d. d - z ∣ x) ds → m ≤ x
   past m x none p h =
       let no : x < m → ⊥ = λ l. true≢false (sym (each-divides z ds x h) ∙ none x p l) in
       omega arith

@@ -5,4 +5,5 @@ pub mod Calls
 pub mod PaddedSecrecy
 pub mod PaddedOpening
 pub mod PaddedCalls
+pub mod Range
 pub mod Starred

@@ -109,10 +109,10 @@ module _ (p : Parameters) (A : AcceptedScheme p) (message keys : List ℕ) (byte
       rw (written p message keys before (none-applies p A (length message) (length keys) (length before) short (K .0) room))
       (handed-sent p A N (padded (block p) message) keys whole K parties counted apart inside (prefixOf p (length message) (length parties)) prefix-handed)
 
-  handed-long : length (handed p (length message) parties (splitOutput p message keys before)) ≡ prefixBytes p (length parties) N
+  pub handed-long : length (handed p (length message) parties (splitOutput p message keys before)) ≡ prefixBytes p (length parties) N
   handed-long = ap length handed-is ∙ sent-long p A N (padded (block p) message) keys whole K parties counted apart inside
 
-  message-back : take (length message) (openedString p parties N (handed p (length message) parties (splitOutput p message keys before))) ≡ message
+  pub message-back : take (length message) (openedString p parties N (handed p (length message) parties (splitOutput p message keys before))) ≡ message
   message-back =
       rw (handed-is, returned p A N (padded (block p) message) keys whole K parties counted apart inside) (unpadded (block p) message)
 

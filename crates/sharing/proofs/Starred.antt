@@ -13,7 +13,8 @@ use Rattle.gf256.specs.Byte.{_⊕_, _⊗_, cut, reduce, inverseBelow, inverse}
 use Rattle.interpolation.specs.Polynomial as polynomial
 use Rattle.interpolation.specs.Polynomial.{next, eval, plus, scale, linear, above}
 use Rattle.interpolation.specs.Interpolation.{through, fitted}
-use Rattle.scheme.specs.BlockLength.{divides, firstFrom, commonMultiple, blockLength}
+use Rattle.lists.specs.Search.{firstFrom}
+use Rattle.scheme.specs.BlockLength.{divides, commonMultiple, blockLength}
 use Rattle.scheme.specs.Check.{falls, partiesRefused, thresholdsRefused, countsRefused, blockRefused, refusal, rowsOfCount, rowsOfBlock, blockCount, checked}
 use Rattle.family.specs.Message.{padded}
 use Rattle.family.specs.Family.{shareOfBlocks, sharesOfBlocks}

@@ -6,4 +6,5 @@ pub mod PaddedSecrecy
 pub mod PaddedOpening
 pub mod PaddedRoundTrip
 pub mod PaddedCalls
+pub mod Range
 pub mod Starred

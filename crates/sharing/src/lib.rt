@@ -1,7 +1,7 @@
 // Secret sharing by staircase polynomials over bytes: all of the library's calls under one name, with the demands
 // that they meet together as theorems and the worked examples of the rules. A message is split into shares (`dealer`),
 // a party hands out the prefix of its share (`party`), and the readers find their Lagrange basis and the message again
-// (`reader`). The calls on a message that shows its own end, by its padding, have `padded` in their names.
+// (`reader`), or only a range of it. The calls on a message that shows its own end, by its padding, have `padded` in their names.
 pub use dealer::split;
 pub use dealer::split_default;
 pub use dealer::split_padded;
@@ -23,4 +23,6 @@ pub use reader::reconstruct;
 pub use reader::reconstruct_default;
 pub use reader::reconstruct_padded;
 pub use reader::reconstruct_padded_default;
+pub use reader::reconstruct_range;
+pub use reader::reconstruct_range_default;
 pub use scheme::Answer;

@@ -30,7 +30,7 @@ fn check_tried(s: &Scheme) {
     _ = black_box(library::check_tried(s.n, s.r, s.z, &s.counts));
 }
 
-fn shape(s: &Scheme) -> String {
+pub fn shape(s: &Scheme) -> String {
     format!("n {}, r {}, z {}, counts {:?}", s.n, s.r, s.z, s.counts)
 }
 
@@ -138,7 +138,7 @@ fn small_calls(random: &mut Random, scheme: &Scheme) -> Vec<(String, Program)> {
 }
 
 /// The default scheme, and one with the longest block.
-fn schemes() -> [Scheme; 2] {
+pub fn schemes() -> [Scheme; 2] {
     [Scheme::default(), Scheme::new(9, 3, 1, vec![9, 8, 7, 6]).expect("an accepted scheme")]
 }
 

@@ -87,6 +87,16 @@ extern "C" {
         message_length: usize, parties: *const u8, parties_length: usize,
         prefixes: *const u8, prefixes_length: usize, out: *mut u8, out_length: usize,
     ) -> SharingAnswer;
+    pub fn sharing_reconstruct_range(
+        n: u8, r: u8, z: u8, counts: *const u8, counts_length: usize,
+        message_length: usize, start: usize, range_length: usize,
+        parties: *const u8, parties_length: usize, prefixes: *const u8, prefixes_length: usize,
+        out: *mut u8, out_length: usize,
+    ) -> SharingAnswer;
+    pub fn sharing_reconstruct_range_default(
+        message_length: usize, start: usize, range_length: usize, parties: *const u8, parties_length: usize,
+        prefixes: *const u8, prefixes_length: usize, out: *mut u8, out_length: usize,
+    ) -> SharingAnswer;
     pub fn sharing_split_padded(
         n: u8, r: u8, z: u8, counts: *const u8, counts_length: usize,
         message: *const u8, message_length: usize, keys: *const u8, keys_length: usize,

@@ -113,6 +113,18 @@ pub fn byte_list(word: &OsStr) -> Result<Vec<u8>, Failure> {
     word.as_bytes().split(|character| b", ".contains(character)).map(|part| byte(OsStr::from_bytes(part))).collect()
 }
 
+/// START..END, or why the word is none.
+pub fn bounds(word: &OsStr) -> Result<(usize, usize), String> {
+    let sides = word.to_str().and_then(|text| text.split_once(".."));
+    let Some((start, end)) = sides.filter(|(start, end)| is_digits(start.as_ref()) && is_digits(end.as_ref())) else {
+        return Err(format!("needed is START..END, as in 0..80, not {word:?}"));
+    };
+    match (number(start.as_ref(), usize::MAX)?, number(end.as_ref(), usize::MAX)?) {
+        (start, end) if start > end => Err(format!("{word:?} starts after its end")),
+        bounds => Ok(bounds),
+    }
+}
+
 /// PARTY=FILE.
 pub fn party_and_file(word: &OsStr) -> Result<(u8, PathBuf), Failure> {
     match sides(word) {

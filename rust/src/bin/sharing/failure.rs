@@ -42,6 +42,7 @@ pub fn refusals() -> impl Iterator<Item = (u64, String)> {
              {MAX_OFFSET_OR_LENGTH}, or the last one does not end the file"
         ),
         "the archive has no entry of this number".to_string(),
+        "the range ends past the end of the message".to_string(),
     ];
     (1..).zip(reasons)
 }

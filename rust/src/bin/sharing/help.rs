@@ -7,14 +7,14 @@ use gilunavoi::limits::{MAX_ENTRIES, MAX_MESSAGE, MAX_OFFSET_OR_LENGTH, MAX_PART
 const COMMANDS: &str = "\
 sharing splits a message into shares and opens it again from the beginnings of a few of them.
 
-  sharing scheme [S]
-      says what a scheme costs
+  sharing scheme [S] [--range START..END | --first BYTES]
+      says what a scheme costs, and what a range of a message costs in it
   sharing split [--scheme S] [--unpadded] MESSAGE KEYS FOLDER
       writes one share a party
   sharing prefix [--scheme S] [--length L] --readers D SHARE OUT
       cuts out of a share what its party sends when D parties are read from
-  sharing reconstruct [--scheme S] [--length L] OUT PARTY=FILE PARTY=FILE ..
-      opens the message from what the parties sent
+  sharing reconstruct [--scheme S] [--length L] [--range START..END | --first BYTES] OUT PARTY=FILE ..
+      opens the message, or a range of it, from what the parties sent
   sharing archive write FILE [SHARE ..]
   sharing archive list FILE
   sharing archive entry FILE NUMBER OUT
@@ -51,7 +51,8 @@ written, and for you to remove.
 The exit status is 0 when all went well, 1 when the input was refused or a file could not be read or
 written, and 2 when the command line cannot be understood. A signal ends the program as it ends others.
 
-Input is refused for the first of these reasons that applies, with its number:
+Input is refused for the first of these reasons that applies, with its number; where --length is given, 15
+is looked at before 9:
 
 {table}"
     )
@@ -60,8 +61,8 @@ Input is refused for the first of these reasons that applies, with its number:
 pub fn scheme() -> String {
     format!(
         "\
-sharing scheme N,R,Z,D1,D2..
-sharing scheme
+sharing scheme N,R,Z,D1,D2.. [--range START..END | --first BYTES]
+sharing scheme [--range START..END | --first BYTES]
 
 Says of a scheme, or of the default one, how long a block is, how many rows it is kept in, how many key
 bytes it takes, and for each count how many bytes of a block each party sends, and all of them together.
@@ -70,6 +71,10 @@ bytes it takes, and for each count how many bytes of a block each party sends, a
   R         how many may be absent
   Z         how many may put their shares together and learn nothing, at least 1
   D1,D2..   the counts: numbers of parties to read from, falling, the last one N - R
+
+With --range or --first the table goes on: how many of the rows that each party sends are needed for these
+bytes of a message, and how many bytes of a block those are, from all parties together. reconstruct --help
+says what a range is.
 
 Spaces may stand for the commas, here and after --scheme. The former default was {former}.
 ",
@@ -121,7 +126,8 @@ L is at most 6.
 pub fn reconstruct() -> String {
     format!(
         "\
-sharing reconstruct [--scheme N,R,Z,D1,D2..] [--length L] OUT PARTY=FILE PARTY=FILE ..
+sharing reconstruct [--scheme N,R,Z,D1,D2..] [--length L] [--range START..END | --first BYTES]
+                    OUT PARTY=FILE PARTY=FILE ..
 
 Opens a message and writes it into OUT, without its padding. Each FILE is the prefix that the party of
 this number sent, cut for as many readers as there are parties here; their number is one of the scheme's
@@ -129,6 +135,24 @@ counts. A whole share is the prefix for the last count, and for no other. The pa
 order: they are sorted.
 
 --length L is for shares of the earlier form, which split --unpadded writes: the message has L bytes.
+
+--range START..END writes only the bytes from START up to END, END not included, counted from 0; --first BYTES
+is --range 0..BYTES. It is for who wants the first lines while the rest is still on its way: not all rows of
+the prefixes are used, and what stands in the others changes nothing. So each FILE must have its full length,
+but zeros may stand where nothing has arrived. A row has a byte of each block, and the rows stand in the
+prefix one after another: first those that are sent for the first count, then those that each further count
+adds, down to the number of parties here. What a count adds is a group. The last group is used first, then
+the one before it, the rows of each from first to last, and no more as soon as every byte of the range, or a
+copy of it, stands in a row that was used. So with fewer parties than the first count it is the ends of the
+prefixes that have to be there first. sharing scheme --range says how many rows are used.
+
+A row is used for all blocks, so a range as long as a block needs all rows. In the default scheme, with blocks
+of 6 bytes, every range of 6 bytes or more does, and the first byte alone takes 1 of 2, 2 of 3 and 5 of 6 rows
+for 5, 4 and 3 parties. A range pays in schemes with long blocks.
+
+Nothing of a range is checked, with --length or without. Without --length the message's end is not looked for
+either: a range may go on in the padding, up to the end of the last block, and the report says from which
+byte on that may be; and of a message of {MAX_MESSAGE} bytes that fills its blocks no range is opened, only the whole.
 
 Whether the message is the right one cannot be seen here. A false byte, a wrong party, a prefix that was
 cut for another number of readers or a scheme that is not the message's is noticed only if the last block

@@ -10,6 +10,8 @@ mod files;
 mod form;
 mod help;
 mod interrupt;
+mod range;
+mod reconstruct;
 mod report;
 mod scheme;
 

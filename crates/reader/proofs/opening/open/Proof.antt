@@ -17,7 +17,7 @@ use Rattle.staircase.specs.Exactness.{openedString}
 use Rattle.staircase.proofs.Sizes.{count-most}
 use Rattle.rows.proofs.Points.{points-are}
 use Rattle.reader.specs.Decoding.{Input, EachSent}
-use Rattle.reader.proofs.LaterRows.{A}
+use Rattle.reader.proofs.CountedScheme.{A}
 use Rattle.reader.proofs.Reading.{begins}
 use Rattle.reader.proofs.opening.open.Statement.{statement}
 use Rattle.reader.proofs.opening.open.Tie as tie
@@ -31,15 +31,14 @@ module _ (c : tie.After-slice-known) where
 
   -- there are at most 16 parties
   few : length (st .args .parties .now) ≤ side
-  few = count-most p (st .pre .0 .0 .passed) (length (st .args .parties .now)) (st .pre .0 .1)
+  few = count-most p (st .pre .0 .0 .scheme .passed) (length (st .args .parties .now)) (st .pre .0 .0 .count)
 
   input : Input (st .args .s) (st .args .counts .now) (length (st .args .parties .now)) (st .args .blocks) (st .args .prefixes .now)
   input =
       record {
-        scheme = st .pre .0 .0;
-        count = st .pre .0 .1;
-        blocks-high = st .pre .1 .blocks-high;
-        prefixes-long = st .pre .1 .prefixes-long;
+        counted = st .pre .0 .0;
+        blocks-high = st .pre .1 .0 .blocks-high;
+        prefixes-long = st .pre .1 .0 .prefixes-long;
       }
 
 -- what is said of the blocks that were sent, with these weights, holds of the opened ones
@@ -54,7 +53,7 @@ opened c Says E =
     let s = st k in
     let a = s .args in
     let bytes = each-of Byte (a .prefixes .now) 0 (λ i l. k .before .shared-slice-known3 .given i .fits) in
-    begins (a .s) _ (s .pre .0 .0) (a .parties .now) (s .pre .0 .1) (s .pre .0 .2) (a .blocks) (a .prefixes .now) (s .pre .1 .prefixes-long) bytes _ _ (points-are _ _ _ (o .points-of .ensures _) (few k)) (c .opening-weights .ensures) Says E
+    begins (a .s) _ (s .pre .0 .0 .scheme) (a .parties .now) (s .pre .0 .0 .count) (s .pre .0 .1) (a .blocks) (a .prefixes .now) (s .pre .1 .0 .prefixes-long) bytes _ _ (points-are _ _ _ (o .points-of .ensures _) (few k)) (c .opening-weights .ensures) Says E
 
 pub open-spec : {M : Type 1} → statement M
 open-spec =
@@ -63,15 +62,15 @@ open-spec =
     (λ c κs. search needs)
     (λ c. omega (arith, few (c .before)))
     (λ c. sym (length-take-le _ (c .before .points-of .result) (omega (arith, few (c .before .before)))))
-    (λ c. omega (arith, A (input (c .before .before .before)) .some))
+    (λ c. omega (arith, A (st (c .before .before .before) .pre .0 .0) .some))
     (λ c. omega (arith, c .shared-slice-known4 .given 0))
     (λ c κs. search needs)
-    (λ c. omega (arith, st (c .before .before .before .before .before) .pre .1 .room))
+    (λ c. omega (arith, st (c .before .before .before .before .before) .pre .1 .0 .room))
     (λ c. search needs)
     (λ c κs.
     let i = c .before .before in
     let k = i .before .before .before .before .before .before in
-    (input k, omega (arith, i .if1 .taken, length-replicate {A = ℕ} 2048 0), st k .pre .1 .covered, st k .pre .1 .block))
+    ((input k, omega (arith, i .if1 .taken, length-replicate {A = ℕ} 2048 0), st k .pre .1 .0 .covered, st k .pre .1 .0 .end), st k .pre .1 .1))
     (λ c. search needs)
     (λ c.
     let f = c .before .before .before in
@@ -79,7 +78,7 @@ open-spec =
     (λ c. search needs)
     (λ c κs.
     let k = c .before .before .before .before .before .before .before .before in
-    (input k, omega (arith, st k .pre .1 .room, length-replicate {A = ℕ} (maxMessage + maxBlock) 0), st k .pre .1 .covered, st k .pre .1 .block))
+    ((input k, omega (arith, st k .pre .1 .0 .room, length-replicate {A = ℕ} (maxMessage + maxBlock) 0), st k .pre .1 .0 .covered, st k .pre .1 .0 .end), st k .pre .1 .1))
     (λ c. search needs)
     (λ c.
     let f = c .before .before .before in

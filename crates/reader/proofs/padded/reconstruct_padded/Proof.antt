@@ -13,12 +13,12 @@ use Rattle.scheme.specs.declared.Scheme.{Scheme}
 use Rattle.scheme.specs.Facts.{SchemeIs}
 use Rattle.scheme.specs.Limits.{maxMessage}
 use Rattle.scheme.specs.Readers.{readersRefused}
-use Rattle.scheme.proofs.Laws.{accepted-scheme, scheme-own, refuses, numbered, done, pass, stop-scheme, stop-true, pass-false, stop-other, pass-same}
+use Rattle.scheme.proofs.Laws.{accepted-scheme, refuses, numbered, done, pass, stop-scheme, stop-true, pass-false, stop-other, pass-same}
 use Rattle.staircase.specs.Parameters.{Parameters, parameters}
 use Rattle.staircase.proofs.Sizes.{count-most}
 use Rattle.reader.specs.ReconstructPadded.{blocksSent, reconstructPaddedRefusal, reconstructPaddedAnswer, reconstructPaddedOutput}
 use Rattle.reader.proofs.OpenerAnswers.{m-some, rows-small}
-use Rattle.reader.proofs.PaddedAnswers.{told-blocks, size-small, BlocksTold, some-blocks, size-is, sought-fits, ends-nowhere, unwritten, ends-within, opens-padded}
+use Rattle.reader.proofs.PaddedAnswers.{told-blocks, size-small, BlocksTold, some-blocks, size-is, sought-fits, counted-told, sought-turns, ends-nowhere, unwritten, ends-within, opens-padded}
 use Rattle.reader.proofs.padded.reconstruct_padded.Statement.{statement}
 use Rattle.reader.proofs.padded.reconstruct_padded.Tie as tie
 
@@ -128,8 +128,10 @@ reconstruct-padded-spec =
     (pass (is e .passed) (pass-false 6 (counted-test e) (pass-false 7 (rising e) (pass-false 9 (some-blocks (told t)) (stop-other (λ q. c .if4 .taken (q ∙ sym (size-is (told t))))))))))
     (λ c κs.
     let t = c .before .before in
-    let e = ordered t in
-    ((scheme-own _ _ _ _ _ (is e), counted e, rw (is e .n-is) (rising e)), sought-fits (told t) _ (c .before .if4 .left)))
+    let e = ordered t in (
+      (counted-told (told t), rw (is e .n-is) (rising e)),
+      (sought-fits (told t) _ (c .before .if4 .left), sought-turns (told t) _ _ (held t .before .rows-of-count .ensures)),
+    ))
     (λ c. search needs)
     (λ c. search needs)
     (λ c. search needs)
@@ -151,4 +153,4 @@ reconstruct-padded-spec =
     let out = st e .args .out .now in
     let yes = ends-within (told t) out _ _ (u .open .ensures .1) _ (n .end .given .1) in
     let none = numbered (pass (is e .passed) (pass-false 6 (counted-test e) (pass-false 7 (rising e) (pass-false 9 (some-blocks (told t)) (pass-same 10 (o .if4 .left ∙ size-is (told t)) (pass-false 11 yes done)))))) in
-    opens-padded (told t) out _ _ (u .open .ensures .1) _ _ (u .open .ensures .0) (n .end .given .1) (o .if4 .left) none))
+    opens-padded (told t) out _ _ (u .open .ensures .1) _ _ _ (held t .before .rows-of-count .ensures) (u .open .ensures .0) (n .end .given .1) (o .if4 .left) none))

@@ -1,0 +1,3 @@
+pub mod ReadingOrder
+pub mod RowsTaken
+pub mod Examples

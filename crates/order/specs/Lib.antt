@@ -1,0 +1,2 @@
+pub mod ReadingOrder
+pub mod RowsTaken

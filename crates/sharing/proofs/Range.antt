@@ -1,0 +1,122 @@
+-- The opener for a range in words: each test of a call reflects the line of the table at its place, what an accepted call wrote is the range of the full
+-- opening, and of what was split the message's. And the words settle a call.
+-- Assumes nothing.
+use mathlib.Core.Path.{_≡_, refl, sym, ap, _∙_}
+use mathlib.Core.Bool.{not}
+use mathlib.Core.List.{List, _∷_, []}
+use Prim.Native.Nat.{ℕ, _+_, _*_, _≤_}
+use native.Mathlib.Omega.{arith}
+use lib.ListN.{length, take, drop, length-drop}
+use lib.Seq.{length-take-le}
+use borrow.Author.Tests.{le-ltb}
+use Rattle.lists.specs.Each.{Each, Byte}
+use Rattle.scheme.specs.declared.Answer.{Answer}
+use Rattle.scheme.specs.declared.Answer.the-variants.{Value, Refused}
+use Rattle.scheme.proofs.Laws.{end, line, above, other, no-count, not-rising, after-scheme, answered-by, told-accepted, told-refused, kept, readers-pass, parties-distinct, done, pass, pass-within, pass-false, pass-same, numbered, answer-none}
+use Rattle.family.proofs.Message.{blocks-cover}
+use Rattle.staircase.specs.Parameters.{Parameters, AcceptedScheme, defaultParameters, block, blocksOf}
+use Rattle.staircase.specs.Exactness.{prefixBytes, openedString, Opened}
+use Rattle.staircase.proofs.Sizes.{block-some}
+use Rattle.dealer.specs.Split.{splitOutput}
+use Rattle.reader.specs.Reconstruct.{reconstructAnswer, reconstructOutput}
+use Rattle.reader.specs.Range.{takenRows, rangeRefusal, rangeAnswer, rangeOutput, RangeCall}
+use Rattle.reader.proofs.Laws.{RangeGiven, range-given, range-count, range-cut}
+use Rattle.sharing.specs.RoundTrip.{handed}
+use Rattle.sharing.specs.Range.{OpenedRange, OpensRange, EveryRange, RangeSettled, RangeRoundTrip}
+use Rattle.sharing.proofs.Opening.{opened-of}
+use Rattle.sharing.proofs.Calls.{one-answer}
+use Rattle.sharing.proofs.RoundTrip.{handed-long, message-back}
+
+-- ---- what an accepted call did
+
+module _ (p : Parameters) (message start long : ℕ) (parties prefixes before : List ℕ) (used : ℕ) (after : List ℕ) (bytes : Each Byte prefixes)
+    (C : RangeCall p message start long parties prefixes before (Value used) after) where
+  abbrev B : List ℕ
+  B = openedString p parties (blocksOf p message) prefixes
+
+  told : (rangeRefusal p message start long parties (length prefixes) (length before) ≡ 0) × (used ≡ length parties * takenRows p (length parties) start long * blocksOf p message)
+  unfolding rangeAnswer
+  told = told-accepted (Value used) _ _ (C .0) refl
+
+  given : RangeGiven p message start long parties (length prefixes) (length before)
+  given = range-given p message start long parties (length prefixes) (length before) (told .0)
+
+  cut : after ≡ take long (drop start (take message B))
+  unfolding rangeOutput
+  cut = C .1 ∙ rw (told .0)
+
+  opened : Opened p message parties prefixes
+  opened = opened-of given bytes
+
+  output : after ≡ take long (drop start B)
+  output = cut ∙ sym (range-cut message start long B (given .inside))
+
+  covers : start + long ≤ length B
+  covers = rw (opened .bytes .0) (omega (arith, given .inside, blocks-cover (block p) message (block-some p (given .good))))
+
+  opened-range : OpenedRange p message start long parties prefixes used after
+  unfolding rangeAnswer reconstructAnswer reconstructOutput prefixBytes
+  opened-range =
+      let rows = range-count p (given .good) (length parties) (given .count) start long in
+      record {
+        opened = opened;
+        output = output;
+        inside = given .inside;
+        long-is = ap length output ∙ length-take-le long _ (rw length-drop (omega (arith, covers)));
+        full = λ before′ whole all F.
+            let full = told-accepted (Value all) _ _ (F .0) refl in
+            cut ∙ ap (λ (l : List ℕ). take long (drop start l)) (sym (F .1 ∙ rw (full .0)));
+        used-is = told .1;
+        rows = rows;
+        used-most = rw (told .1, given .sent) (rows .most (blocksOf p message));
+      }
+
+opens-range : (p : Parameters) (message start long : ℕ) (parties prefixes before : List ℕ) (a : Answer) (after : List ℕ) → Each Byte prefixes
+    → RangeCall p message start long parties prefixes before a after → OpensRange p message start long parties prefixes before a after
+unfolding rangeAnswer rangeOutput
+opens-range p message start long parties prefixes before (Value used) after bytes C = opened-range p message start long parties prefixes before used after bytes C
+opens-range p message start long parties prefixes before (Refused number) after bytes C = C .1 ∙ sym (kept _ (told-refused (Refused number) _ _ (C .0) refl))
+
+-- ---- the table in words
+
+pub range-in-words : (p : Parameters) → EveryRange p
+unfolding rangeAnswer rangeRefusal prefixBytes
+range-in-words p message start long parties prefixes before a after bytes C =
+    record {
+      answered =
+          answered-by
+          (after-scheme (p .n) (p .r) (p .z) (p .counts)
+          (line above (line (no-count (length parties) (p .counts)) (line (not-rising (p .n) parties) (line above (line other (line other end))))))) _ a (C .0);
+      wrote = opens-range p message start long parties prefixes before a after bytes C;
+    }
+
+pub default-range-in-words : EveryRange defaultParameters
+default-range-in-words = range-in-words defaultParameters
+
+one-range : (p : Parameters) (message start long : ℕ) (parties prefixes before : List ℕ) (a : Answer) (after after′ : List ℕ)
+    → OpensRange p message start long parties prefixes before a after → OpensRange p message start long parties prefixes before a after′ → after ≡ after′
+one-range p message start long parties prefixes before (Value used) after after′ O O′ = O .output ∙ sym (O′ .output)
+one-range p message start long parties prefixes before (Refused number) after after′ O O′ = O ∙ sym O′
+
+pub range-settled : (p : Parameters) → RangeSettled p
+range-settled p message start long parties prefixes before a a′ after after′ R R′ =
+    let same = one-answer a a′ (R .answered) (R′ .answered) in
+    (same, one-range p message start long parties prefixes before a after after′ (R .wrote) (rw (← same) at (R′ .wrote)))
+
+-- ---- the way there and back
+
+pub range-round-trip : (p : Parameters) → AcceptedScheme p → RangeRoundTrip p
+unfolding rangeOutput rangeAnswer rangeRefusal
+range-round-trip p A message keys bytes short K parties counted rising before out room start inside =
+    let right = parties-distinct (p .n) parties rising in
+    let long = handed-long p A message keys bytes short K parties counted (right .0) (right .1) before room in
+    let passed = readers-pass (p .n) parties rising in
+    let passes : rangeRefusal p (length message) start (length out) parties (length (handed p (length message) parties (splitOutput p message keys before))) (length out) ≡ 0 =
+    numbered
+    (pass A
+    (pass-within 5 short
+    (pass-false 6 (ap not counted) (pass-false 7 passed (pass-within 15 inside (pass-same 9 long (pass-same {a = length out} {b = length out} 10 refl done))))))) in (
+      answer-none _ _ passes,
+      rw passes
+          (ap (λ (l : List ℕ). take (length out) (drop start l)) (message-back p A message keys bytes short K parties counted (right .0) (right .1) before room)),
+    )

@@ -1,0 +1,90 @@
+-- Request e of document 02, the opener for a range, in words: the lines of the table that apply to a call of it in their order, what an accepted one did,
+-- and that the range of what was split is the message's. Which rows it takes, and that the others change nothing, is `RangeCount` and `RowsNotTaken` in
+-- crates/reader/specs/Range.antt. Nothing is asked of the scheme, the parties, the range or the lengths: a call that was accepted has shown what it takes.
+-- Assumes nothing.
+use mathlib.Core.Path.{_≡_}
+use mathlib.Core.Bool.{true}
+use mathlib.Core.Logic.{_≢_}
+use mathlib.Core.List.{List, [], _∷_, _++_}
+use Prim.Native.Nat.{ℕ, _+_, _*_, _≤_, _<_}
+use lib.ListN.{length, take, drop}
+use Rattle.lists.specs.Each.{Each, Byte, occurs}
+use Rattle.scheme.specs.declared.Answer.{Answer}
+use Rattle.scheme.specs.declared.Answer.the-variants.{Value, Refused}
+use Rattle.scheme.specs.Limits.{maxMessage}
+use Rattle.scheme.specs.Outcome.{accepted}
+use Rattle.scheme.specs.Grounds.{Ground, ground, AnsweredBy}
+use Rattle.scheme.specs.Readers.{Rising}
+use Rattle.staircase.specs.Parameters.{Parameters, prefixRows, blocksOf, outputBytes}
+use Rattle.staircase.specs.Shares.{KeyString}
+use Rattle.staircase.specs.Exactness.{openedString, Opened}
+use Rattle.dealer.specs.Split.{splitOutput}
+use Rattle.reader.specs.Reconstruct.{ReconstructCall}
+use Rattle.reader.specs.Range.{takenRows, rangeAnswer, rangeOutput, RangeCall, CountedRows}
+use Rattle.sharing.specs.Calls.{schemeLines, tooLong, noCount, notRising}
+use Rattle.sharing.specs.RoundTrip.{handed}
+
+-- what an accepted call did that answered `used`
+pub record OpenedRange (p : Parameters) (message start long : ℕ) (parties prefixes : List ℕ) (used : ℕ) (after : List ℕ) : Type 0 where
+  -- some keys turn the opened string, which is whole blocks, into these prefixes, and no other whole blocks have them
+  pub opened : Opened p message parties prefixes
+  -- the output is the range of that string, which lies inside the message
+  pub output : after ≡ take long (drop start (openedString p parties (blocksOf p message) prefixes))
+  pub inside : start + long ≤ message
+  pub long-is : length after ≡ long
+  -- it is that range of what every accepted call of the full opener writes that is lent the same
+  pub full : (before whole : List ℕ) (all : ℕ) → ReconstructCall p message parties prefixes before (Value all) whole → after ≡ take long (drop start whole)
+  -- d × rows taken × N bytes were used, and the rows taken are the fewest of the reader's order that reach the range
+  pub used-is : used ≡ length parties * takenRows p (length parties) start long * blocksOf p message
+  pub rows : CountedRows p (length parties) start long
+  -- no more than were lent, which the full opener uses
+  pub used-most : used ≤ length prefixes
+
+-- what a call did, by its answer: a refused one left the output as it was
+abbrev pub OpensRange : Parameters → ℕ → ℕ → ℕ → List ℕ → List ℕ → List ℕ → Answer → List ℕ → Type 0
+OpensRange p message start long parties prefixes before (Value used) after = OpenedRange p message start long parties prefixes used after
+OpensRange p message start long parties prefixes before (Refused number) after = after ≡ before
+
+-- a message of so many bytes, the start and the length of a range, a list of parties, and prefixes and an output of so many bytes
+abbrev pub rangeLines : Parameters → ℕ → ℕ → ℕ → List ℕ → ℕ → ℕ → List Ground
+rangeLines p message start long parties prefixes out =
+    schemeLines p
+    ++ (tooLong message
+    ∷ noCount p (length parties)
+    ∷ notRising p parties
+    ∷ ground 15 (message < start + long)
+    ∷ ground 9 (prefixes ≢ length parties * prefixRows p (length parties) * blocksOf p message)
+    ∷ ground 10 (out ≢ long)
+    ∷ [])
+
+pub record RangeInWords (p : Parameters) (message start long : ℕ) (parties prefixes before : List ℕ) (a : Answer) (after : List ℕ) : Type 0 where
+  pub answered :
+      AnsweredBy (rangeLines p message start long parties (length prefixes) (length before))
+      (length parties * takenRows p (length parties) start long * blocksOf p message) a
+  pub wrote : OpensRange p message start long parties prefixes before a after
+
+-- every call with prefixes that are bytes (`range-in-words` in proofs/Range.antt), whatever else it is given
+abbrev pub EveryRange : Parameters → Type 0
+EveryRange p =
+    (message start long : ℕ) (parties prefixes before : List ℕ) (a : Answer) (after : List ℕ) → Each Byte prefixes
+    → RangeCall p message start long parties prefixes before a after → RangeInWords p message start long parties prefixes before a after
+
+-- the words settle a call: two that fit them, given the same, answered and left the same
+abbrev pub RangeSettled : Parameters → Type 0
+RangeSettled p =
+    (message start long : ℕ) (parties prefixes before : List ℕ) (a a′ : Answer) (after after′ : List ℕ)
+    → RangeInWords p message start long parties prefixes before a after → RangeInWords p message start long parties prefixes before a′ after′
+    → (a ≡ a′) × (after ≡ after′)
+
+-- of an accepted scheme (`range-round-trip`), the range of what was split is the message's: the opener of a range inside it, lent the prefixes that the
+-- parties hand back, accepts, and writes it
+abbrev pub RangeRoundTrip : Parameters → Type 0
+RangeRoundTrip p =
+    (message keys : List ℕ) → Each Byte message → length message ≤ maxMessage → KeyString p (length message) keys
+    → (parties : List ℕ) → occurs (length parties) (p .counts) ≡ true → Rising 0 (p .n) parties
+    → (before out : List ℕ) → length before ≡ outputBytes p (blocksOf p (length message))
+    → (start : ℕ) → start + length out ≤ length message
+    → let prefixes : List ℕ = handed p (length message) parties (splitOutput p message keys before) in
+    (rangeAnswer p (length message) start (length out) parties (length prefixes) (length out)
+    ≡ accepted (length parties * takenRows p (length parties) start (length out) * blocksOf p (length message) ∷ []))
+    × (rangeOutput p (length message) start (length out) parties prefixes out ≡ take (length out) (drop start message))
