@@ -1,5 +1,5 @@
 -- The opener for a range in words: each test of a call reflects the line of the table at its place, what an accepted call wrote is the range of the full
--- opening, and of what was split the message's. And the words settle a call.
+-- opening, and of what was split the message's; the words settle a call, and rows that are not taken change none.
 -- Assumes nothing.
 use mathlib.Core.Path.{_≡_, refl, sym, ap, _∙_}
 use mathlib.Core.Bool.{not}
@@ -20,12 +20,13 @@ use Rattle.staircase.proofs.Sizes.{block-some}
 use Rattle.dealer.specs.Split.{splitOutput}
 use Rattle.reader.specs.Reconstruct.{reconstructAnswer, reconstructOutput}
 use Rattle.reader.specs.Range.{takenRows, rangeRefusal, rangeAnswer, rangeOutput, RangeCall}
-use Rattle.reader.proofs.Laws.{RangeGiven, range-given, range-count, range-cut}
+use Rattle.reader.proofs.Laws.{RangeGiven, range-given, range-count, range-cut, rows-not-taken}
 use Rattle.sharing.specs.RoundTrip.{handed}
-use Rattle.sharing.specs.Range.{OpenedRange, OpensRange, EveryRange, RangeSettled, RangeRoundTrip}
+use Rattle.sharing.specs.Range.{OpenedRange, OpensRange, EveryRange, RangeSettled, UntakenRows, RangeRoundTrip}
 use Rattle.sharing.proofs.Opening.{opened-of}
 use Rattle.sharing.proofs.Calls.{one-answer}
 use Rattle.sharing.proofs.RoundTrip.{handed-long, message-back}
+use Rattle.sharing.proofs.Secrecy.{same-answer}
 
 -- ---- what an accepted call did
 
@@ -102,6 +103,13 @@ pub range-settled : (p : Parameters) → RangeSettled p
 range-settled p message start long parties prefixes before a a′ after after′ R R′ =
     let same = one-answer a a′ (R .answered) (R′ .answered) in
     (same, one-range p message start long parties prefixes before a after after′ (R .wrote) (rw (← same) at (R′ .wrote)))
+
+-- ---- the rows that are not taken
+
+pub untaken-rows : (p : Parameters) → UntakenRows p
+untaken-rows p message start long size parties prefixes prefixes′ before a a′ after after′ B B′ same C C′ =
+    let equal = rows-not-taken p message start long size parties prefixes prefixes′ before B B′ same in
+    (same-answer a a′ (C .0 ∙ equal .0 ∙ sym (C′ .0)), C .1 ∙ equal .1 ∙ sym (C′ .1))
 
 -- ---- the way there and back
 

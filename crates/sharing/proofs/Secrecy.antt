@@ -75,7 +75,7 @@ default-secrecy = secrecy defaultParameters default-accepted
 -- ---- how a call ends
 
 -- an answer is its outcome
-same-answer : (a a′ : Answer) → outcome a ≡ outcome a′ → a ≡ a′
+pub same-answer : (a a′ : Answer) → outcome a ≡ outcome a′ → a ≡ a′
 same-answer (Value x) (Value y) e = ap Value (cc (ap (λ (o : Outcome). o .values) e))
 same-answer (Value x) (Refused y) e = let z : _≡_ {A = ℕ} 0 1 = ap length (ap (λ (o : Outcome). o .values) (sym e)) in absurd (let x : ⊥ = omega arith in x)
 same-answer (Refused x) (Value y) e = let z : _≡_ {A = ℕ} 0 1 = ap length (ap (λ (o : Outcome). o .values) e) in absurd (let x : ⊥ = omega arith in x)

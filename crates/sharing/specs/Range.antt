@@ -1,5 +1,5 @@
 -- Request e of document 02, the opener for a range, in words: the lines of the table that apply to a call of it in their order, what an accepted one did,
--- and that the range of what was split is the message's. Which rows it takes, and that the others change nothing, is `RangeCount` and `RowsNotTaken` in
+-- that the rows not taken change nothing, and that the range of what was split is the message's. Which rows are taken is `CountedRows` in
 -- crates/reader/specs/Range.antt. Nothing is asked of the scheme, the parties, the range or the lengths: a call that was accepted has shown what it takes.
 -- Assumes nothing.
 use mathlib.Core.Path.{_≡_}
@@ -15,12 +15,13 @@ use Rattle.scheme.specs.Limits.{maxMessage}
 use Rattle.scheme.specs.Outcome.{accepted}
 use Rattle.scheme.specs.Grounds.{Ground, ground, AnsweredBy}
 use Rattle.scheme.specs.Readers.{Rising}
+use Rattle.family.specs.Message.{Bytes}
 use Rattle.staircase.specs.Parameters.{Parameters, prefixRows, blocksOf, outputBytes}
 use Rattle.staircase.specs.Shares.{KeyString}
 use Rattle.staircase.specs.Exactness.{openedString, Opened}
 use Rattle.dealer.specs.Split.{splitOutput}
 use Rattle.reader.specs.Reconstruct.{ReconstructCall}
-use Rattle.reader.specs.Range.{takenRows, rangeAnswer, rangeOutput, RangeCall, CountedRows}
+use Rattle.reader.specs.Range.{takenRows, rangeAnswer, rangeOutput, RangeCall, SameInTurns, CountedRows}
 use Rattle.sharing.specs.Calls.{schemeLines, tooLong, noCount, notRising}
 use Rattle.sharing.specs.RoundTrip.{handed}
 
@@ -74,6 +75,16 @@ abbrev pub RangeSettled : Parameters → Type 0
 RangeSettled p =
     (message start long : ℕ) (parties prefixes before : List ℕ) (a a′ : Answer) (after after′ : List ℕ)
     → RangeInWords p message start long parties prefixes before a after → RangeInWords p message start long parties prefixes before a′ after′
+    → (a ≡ a′) × (after ≡ after′)
+
+-- two calls that are lent the same, but for bytes in the rows that are not taken, answered and left the same (`untaken-rows`): `RowsNotTaken` in
+-- crates/reader/specs/Range.antt, of calls
+abbrev pub UntakenRows : Parameters → Type 0
+UntakenRows p =
+    (message start long size : ℕ) (parties prefixes prefixes′ before : List ℕ) (a a′ : Answer) (after after′ : List ℕ)
+    → Bytes size prefixes → Bytes size prefixes′
+    → SameInTurns p (length parties) (blocksOf p message) (takenRows p (length parties) start long) prefixes prefixes′
+    → RangeCall p message start long parties prefixes before a after → RangeCall p message start long parties prefixes′ before a′ after′
     → (a ≡ a′) × (after ≡ after′)
 
 -- of an accepted scheme (`range-round-trip`), the range of what was split is the message's: the opener of a range inside it, lent the prefixes that the
