@@ -1,4 +1,4 @@
-// Splits messages, hands out prefixes, makes bases and opens messages, and prints what comes back, for
+// Splits messages, hands out prefixes, makes bases and opens messages and ranges of them, and prints what comes back, for
 // comparison with values that were computed by other means.
 mod bases;
 mod former;
@@ -7,6 +7,7 @@ mod openings;
 mod padded;
 mod prefixes;
 mod printing;
+mod ranges;
 mod splits;
 mod stored;
 
@@ -26,6 +27,8 @@ fn main() {
     openings::of_groups();
     openings::refused();
     openings::refused_twice();
+    ranges::of_groups();
+    ranges::refused();
     padded::splits();
     padded::prefixes();
     padded::openings();
