@@ -73,8 +73,8 @@ bytes it takes, and for each count how many bytes of a block each party sends, a
   D1,D2..   the counts: numbers of parties to read from, falling, the last one N - R
 
 With --range or --first the table goes on: how many of the rows that each party sends are needed for these
-bytes of a message, and how many bytes of a block those are, from all parties together. reconstruct --help
-says what a range is.
+bytes of a message, and how many bytes of a block those are, from all parties together. The byte at place P,
+counted from 0, is the range P..P+1. reconstruct --help says more of ranges.
 
 Spaces may stand for the commas, here and after --scheme. The former default was {former}.
 ",
