@@ -12,7 +12,7 @@ use borrow.Author.Tests.{le-ltb}
 use Rattle.lists.specs.Each.{Each, Byte}
 use Rattle.scheme.specs.declared.Answer.{Answer}
 use Rattle.scheme.specs.declared.Answer.the-variants.{Value, Refused}
-use Rattle.scheme.proofs.Laws.{end, line, above, other, no-count, not-rising, after-scheme, answered-by, told-accepted, told-refused, kept, readers-pass, parties-distinct, done, pass, pass-within, pass-false, pass-same, numbered, answer-none}
+use Rattle.scheme.proofs.Laws.{default-accepted, end, line, above, other, no-count, not-rising, after-scheme, answered-by, told-accepted, told-refused, kept, readers-pass, parties-distinct, done, pass, pass-within, pass-false, pass-same, numbered, answer-none}
 use Rattle.family.proofs.Message.{blocks-cover}
 use Rattle.staircase.specs.Parameters.{Parameters, AcceptedScheme, defaultParameters, block, blocksOf}
 use Rattle.staircase.specs.Exactness.{prefixBytes, openedString, Opened}
@@ -128,3 +128,11 @@ range-round-trip p A message keys bytes short K parties counted rising before ou
       rw passes
           (ap (λ (l : List ℕ). take (length out) (drop start l)) (message-back p A message keys bytes short K parties counted (right .0) (right .1) before room)),
     )
+
+-- ---- the forms without a scheme
+
+pub default-untaken-rows : UntakenRows defaultParameters
+default-untaken-rows = untaken-rows defaultParameters
+
+pub default-range-round-trip : RangeRoundTrip defaultParameters
+default-range-round-trip = range-round-trip defaultParameters default-accepted
