@@ -237,10 +237,13 @@ sharing_answer sharing_reconstruct_default(
  * prefixes, each of all blocks, until every place of a block that the range needs, or a copy of it, stands in
  * one of them. The rows from m / (d' - z) to m / (d - z) - 1 come first, d' being the count before d (from 0
  * if there is none), then in the same way those of d', and so on. `value` is the number of prefix bytes in
- * the rows taken, d x rows x N; an empty range takes none. Row j of block t is byte j x N + t of a prefix.
- * Rows that are not taken may hold anything: the call serves while they are still on their way, but `prefixes`
- * has its full length, and nobody writes there during the call. Refusals 1 to 7, 15, 9 and 10 (`out` has
- * range_length bytes), in this order.
+ * the rows taken, d x rows x N; an empty range takes none. It depends on the numbers and the lengths alone, so
+ * that it may be asked for beforehand with any bytes, to know how many rows to wait for. Row j of block t is
+ * byte j x N + t of a prefix. Rows that are not taken may hold anything: the call serves while they are still
+ * on their way, but `prefixes` has its full length, and nobody writes there during the call. That a row which
+ * is taken has come is the caller's to know. Whole blocks of a padded message can be opened as a message of
+ * N x m bytes, or of 16,384 where that is more. Refusals 1 to 7, 15, 9 and 10 (`out` has range_length bytes),
+ * in this order.
  */
 sharing_answer sharing_reconstruct_range(
     uint8_t n, uint8_t r, uint8_t z, const uint8_t *counts, size_t counts_length,

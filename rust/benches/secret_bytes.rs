@@ -56,7 +56,7 @@ enum Secret {
     All,
 }
 
-/// Opens a range of a message of the earlier form: where it starts, and its bytes. Padded messages have no ranges.
+/// Opens a range of a message of the earlier form: where it starts, and its bytes. There is no call for the padded form.
 fn reconstruct_range(call: &Call, prefixes: &[u8], random: &mut Random) -> (usize, Vec<u8>) {
     if call.form == Form::Padded {
         return (0, Vec::new());

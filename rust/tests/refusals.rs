@@ -309,7 +309,7 @@ fn drawn_damage() {
     let operations: [Compare; 5] =
         [compare::split, compare::prefix, compare::basis, compare::reconstruct, range::reconstruct];
     for form in FORMS {
-        // Padded messages have no ranges.
+        // There is no call for a range in the padded form.
         let operations = &operations[..if form == Form::Padded { 4 } else { 5 }];
         let mut outcomes = vec![[0; 16]; operations.len()];
         for case in 0..30_000 {

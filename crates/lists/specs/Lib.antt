@@ -1,4 +1,4 @@
 pub mod Each
 pub mod Table
 pub mod Without
-pub mod Search
+pub mod FirstFrom

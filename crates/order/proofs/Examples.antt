@@ -5,7 +5,7 @@ use mathlib.Core.Path.{_≡_, refl}
 use mathlib.Core.List.{List, [], _∷_}
 use Prim.Native.Nat.{ℕ}
 use Rattle.lists.specs.Each.{occurs, allIn}
-use Rattle.lists.specs.Search.{firstFrom}
+use Rattle.lists.specs.FirstFrom.{firstFrom}
 use Rattle.lists.specs.Table.{tabulate, joined}
 use Rattle.scheme.specs.Check.{rowsOfCount}
 use Rattle.staircase.specs.Coefficients.{groupOf, countOf, origin, originIn}

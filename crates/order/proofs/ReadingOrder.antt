@@ -75,14 +75,14 @@ module _ (m z : ℕ) (ds : List ℕ) where
 
   -- ---- the turns of the groups from the last down, for any numbers: those of the last of them, and those after
 
-  pub turn-here : (g left : ℕ) → left < rowsBefore m z ds (suc g) - rowsBefore m z ds g
+  turn-here : (g left : ℕ) → left < rowsBefore m z ds (suc g) - rowsBefore m z ds g
       → getD (groupsDown m z ds (suc g)) left 0 ≡ rowsBefore m z ds g + left
   unfolding groupsDown groupRows
   turn-here g left h =
       List·getD-append (groupRows m z ds g) (groupsDown m z ds g) 0 left (rw (group-size g) h)
       ∙ getD-tabulate {A = ℕ} (rowsBefore m z ds (suc g) - rowsBefore m z ds g) (λ k. rowsBefore m z ds g + k) left 0 h
 
-  pub turn-past : (g left : ℕ) → rowsBefore m z ds (suc g) - rowsBefore m z ds g ≤ left
+  turn-past : (g left : ℕ) → rowsBefore m z ds (suc g) - rowsBefore m z ds g ≤ left
       → getD (groupsDown m z ds (suc g)) left 0 ≡ getD (groupsDown m z ds g) (left - (rowsBefore m z ds (suc g) - rowsBefore m z ds g)) 0
   unfolding groupsDown
   turn-past g left h =

@@ -142,8 +142,8 @@ module _ (m start long p : ℕ) (below : p < m) where
 -- ---- the search from the last turn down
 
 -- in no turn from t on does a wanted byte stand below degree d
-abbrev pub NoneFrom : ℕ → ℕ → List ℕ → ℕ → ℕ → ℕ → ℕ → Type 0
-NoneFrom m z ds d start long t =
+abbrev pub NoneLater : ℕ → ℕ → List ℕ → ℕ → ℕ → ℕ → ℕ → Type 0
+NoneLater m z ds d start long t =
     (u e : ℕ) → t ≤ u → u < rowsOfCount m z d → z ≤ e → e < d → Wanted m start long (origin m z ds (rowInTurn m z ds d u) e) → ⊥
 
 module _ {m b z : ℕ} {ds : List ℕ} {d : ℕ} (C : CountIn m b z ds d) (start long : ℕ) where
@@ -154,7 +154,7 @@ module _ {m b z : ℕ} {ds : List ℕ} {d : ℕ} (C : CountIn m b z ds d) (start
   row = rowInTurn m z ds d
 
   abbrev None : ℕ → Type 0
-  None = NoneFrom m z ds d start long
+  None = NoneLater m z ds d start long
 
   wanted-below : (p : ℕ) → Wanted m start long p → p < m
   wanted-below p W = rw (← W .is) (mod-lt (start + W .offset) (C .facts .least .positive))

@@ -5,7 +5,7 @@ use mathlib.Core.Path.{_≡_}
 use mathlib.Core.List.{List}
 use Prim.Native.Nat.{ℕ, _+_, _-_, _%_, _≤_, _<_}
 use Rattle.lists.specs.Each.{allIn}
-use Rattle.lists.specs.Search.{firstFrom}
+use Rattle.lists.specs.FirstFrom.{firstFrom}
 use Rattle.lists.specs.Table.{tabulate, joined}
 use Rattle.scheme.specs.Check.{rowsOfCount}
 use Rattle.staircase.specs.Coefficients.{countOf, origin}

@@ -4,7 +4,7 @@ use mathlib.Core.Path.{_≡_, refl}
 use mathlib.Core.List.{[], _∷_}
 use Rattle.lists.specs.Each.{occurs}
 use Rattle.scheme.specs.Outcome.{accepted, firstOf, answer}
-use Rattle.lists.specs.Search.{firstFrom}
+use Rattle.lists.specs.FirstFrom.{firstFrom}
 use Rattle.scheme.specs.BlockLength.{divides, commonMultiple, blockLength}
 use Rattle.scheme.specs.Check.{falls, partiesRefused, thresholdsRefused, countsRefused, blockRefused, refusal, rowsOfCount, rowsOfBlock, blockCount}
 use Rattle.staircase.specs.Parameters.{parameters, schemeA}

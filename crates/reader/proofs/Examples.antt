@@ -5,7 +5,7 @@ use mathlib.Core.Path.{_≡_, refl}
 use mathlib.Core.List.{[], _∷_}
 use lib.ListN.{replicate}
 use Rattle.lists.specs.Each.{occurs, allIn, distinct}
-use Rattle.lists.specs.Search.{firstFrom}
+use Rattle.lists.specs.FirstFrom.{firstFrom}
 use Rattle.lists.specs.Table.{tabulate, joined, piece}
 use Rattle.gf256.specs.Byte as byte
 use Rattle.gf256.specs.Byte.{_⊕_, _⊗_, cut, reduce, inverseBelow, inverse}

@@ -53,7 +53,7 @@ module _ (d top : ℕ) (points : List ℕ) (weights : List (List ℕ)) (W : Weig
       (λ i l k. rw m (W .known i e (omega arith) (omega arith) h))
       (λ i l k. at-degree i (omega arith) ∙ same′ i (omega arith) (omega arith))
 
-  pub lower-equal : (e : ℕ) → e < d → getD cs e 0 ≡ getD cs′ e 0
+  lower-equal : (e : ℕ) → e < d → getD cs e 0 ≡ getD cs′ e 0
   lower-equal e h = sym (sum-is cs bytes long (λ a l. refl) (λ i l k. refl) e h) ∙ sum-is cs′ bytes′ long′ values upper e h
 
 -- ---- the row of turn u, of two strings of blocks

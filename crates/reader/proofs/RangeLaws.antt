@@ -14,12 +14,11 @@ use Rattle.scheme.specs.declared.Scheme.{Scheme}
 use Rattle.scheme.specs.Limits.{maxMessage}
 use Rattle.scheme.specs.Facts.{SchemeIs}
 use Rattle.scheme.specs.Readers.{readersRefused}
-use Rattle.scheme.proofs.Laws as laws
 use Rattle.scheme.proofs.Laws.{first-none, first-if}
 use Rattle.family.proofs.Message.{blocks-cover}
 use Rattle.staircase.specs.Parameters.{Parameters, AcceptedScheme, block, rows, blocksOf}
 use Rattle.staircase.specs.Exactness.{prefixBytes, openedString}
-use Rattle.staircase.proofs.Sizes.{blocks-few}
+use Rattle.staircase.proofs.Sizes.{block-some, blocks-few}
 use Rattle.order.specs.RowsTaken.{Earliest}
 use Rattle.order.proofs.ReadingOrder.{turns}
 use Rattle.order.proofs.RowsTaken.{wanted-all, taken-earliest, taken-all}
@@ -129,7 +128,7 @@ module _ (p : Parameters) (message start long : ℕ) (parties prefixes prefixes�
 
   covered : start + long ≤ N * block p
   covered =
-      omega (arith, G .inside, blocks-cover (block p) message (laws.accepted (p .n) (p .r) (p .z) (p .counts) (G .good) .least .positive))
+      omega (arith, G .inside, blocks-cover (block p) message (block-some p (G .good)))
 
   -- the opened blocks of the one and of the other prefixes have the same bytes at all origins of the rows taken
   found : Found s (p .counts) d N (takenRows p d start long) (openedString p parties N prefixes′) (openedString p parties N prefixes)
@@ -148,7 +147,7 @@ module _ (p : Parameters) (message start long : ℕ) (parties prefixes prefixes�
       found-copied s (p .counts) d N (takenRows p d start long) start long (openedString p parties N prefixes′) (openedString p parties N prefixes) (earliest .enough)
       found covered (whole prefixes′) (whole prefixes) [] _ (ap (λ (l : List ℕ). take long (drop start l)) (sym (append-nil (openedString p parties N prefixes))))
 
-  pub opened-same : take long (drop start (take message (openedString p parties N prefixes))) ≡ take long (drop start (take message (openedString p parties N prefixes′)))
+  opened-same : take long (drop start (take message (openedString p parties N prefixes))) ≡ take long (drop start (take message (openedString p parties N prefixes′)))
   opened-same =
       sym (range-cut message start long (openedString p parties N prefixes) (G .inside))
       ∙ range-same

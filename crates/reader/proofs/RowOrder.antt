@@ -7,19 +7,19 @@ use mathlib.Core.Logic.{⊎-elim}
 use Prim.Native.Nat.{ℕ, _+_, _-_, _*_, _/_, _%_, _≤_, _<_, zero-le}
 use native.Mathlib.Nat.{le-of-lt, zero-mul, mul-zero, zero-add, add-mul, mul-add, mul-le-mul-left, mul-le-mul-right, div-add-mod'}
 use native.Mathlib.Omega.{arith}
-use lib.Dec.{ltb}
 use lib.ListN.{length, getD, take, drop, length-append, length-drop, List·getD-append}
 use lib.Seq.{ext-getD, getD-take, getD-drop, length-take-le}
 use borrow.Author.Tests.{le-ltb}
 use Rattle.lists.specs.Each.{Each, Byte}
 use Rattle.lists.specs.Table.{tabulate}
-use Rattle.lists.proofs.Each.{each-at, each-tabulate}
+use Rattle.lists.proofs.Each.{each-tabulate}
 use Rattle.lists.proofs.Joined.{row-room, in-grid}
 use Rattle.lists.proofs.Table.{length-tabulate, getD-tabulate}
-use Rattle.lists.proofs.Tests.{lt-or-le, cond-ind}
+use Rattle.lists.proofs.Tests.{lt-or-le}
 use Rattle.interpolation.specs.Interpolation.{side}
 use Rattle.scheme.specs.declared.Scheme.{Scheme}
 use Rattle.staircase.specs.Coefficients.{groupOf, countOf, origin, coefficientAt}
+use Rattle.staircase.proofs.Construction.{coefficient-at-byte}
 use Rattle.staircase.proofs.Groups.{counts-fall}
 use Rattle.rows.specs.Origins.{originsOver}
 use Rattle.rows.specs.Sources.{RowOrigins}
@@ -31,14 +31,6 @@ use Rattle.order.proofs.ReadingOrder.{order-of, turnOf, in-turn, row-in-turn-be
 use Rattle.reader.specs.declared.decoding.Sizes.{Sizes}
 use Rattle.reader.specs.Decoding.{SizesFit, RowFits, WeightsOf, RowOf, HasPlaces, Solved, Solves, sentRows, Counted, Input, Sent, EachSent, Found}
 use Rattle.reader.proofs.CountedScheme.{A, count-in, count-high}
-
--- the coefficients of blocks and keys that are bytes
-coefficient-byte : (m b z : ℕ) (ds B K : List ℕ) (t j e : ℕ) → Each Byte B → Each Byte K → Byte (coefficientAt m b z ds B K t j e)
-unfolding coefficientAt
-coefficient-byte m b z ds B K t j e hB hK =
-    cond-ind Byte {t = ltb e z} {a = getD K ((t * b + j) * z + e) 0} {b = getD B (t * m + origin m z ds j e) 0}
-    (λ _. each-at Byte K ((t * b + j) * z + e) 0 (omega arith) hK)
-    (λ _. each-at Byte B (t * m + origin m z ds j e) 0 (omega arith) hB)
 
 -- ---- the bytes counted: those of d parties and `blocks` blocks in each turn passed
 
@@ -126,7 +118,7 @@ module _ {s : Scheme} {ds : List ℕ} {d blocks : ℕ} {prefixes : List ℕ} {P 
           long = λ t h. length-tabulate {A = ℕ} top _;
           bytes = λ t h.
               each-tabulate Byte top _
-              (λ e l. coefficient-byte (s .block) (s .rows) (s .z) ds B K t j e (X .blocks-are .1) (X .keys-are .1));
+              (λ e l. coefficient-at-byte (s .block) (s .rows) (s .z) ds B K (X .blocks-are .1) (X .keys-are .1) t j e);
           message = λ t e h low high. getD-tabulate {A = ℕ} top _ e 0 high ∙ rw (le-ltb e (s .z) low, O .is e low high);
           sent = λ t a h l. rw (R .P-is) (X .rows j t a row-inside h l);
         }

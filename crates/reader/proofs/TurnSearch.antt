@@ -19,7 +19,7 @@ use Rattle.order.specs.ReadingOrder.{rowInTurn}
 use Rattle.order.specs.RowsTaken.{rowsTaken, Wanted}
 use Rattle.order.proofs.ReadingOrder.{order-of, row-in-turn-below}
 use Rattle.order.proofs.RowsTaken as taken
-use Rattle.order.proofs.RowsTaken.{wanted-near, near-wanted, NoneFrom}
+use Rattle.order.proofs.RowsTaken.{wanted-near, near-wanted, NoneLater}
 use Rattle.reader.specs.Decoding.{sentRows, Counted, PlacesBelow}
 use Rattle.reader.specs.Opening.{HoldsWanted}
 use Rattle.reader.proofs.CountedScheme.{count-in}
@@ -57,7 +57,7 @@ wanted-here m from long place start below is near = wanted-near m start long pla
 module _ {s : Scheme} {ds : List ℕ} {d : ℕ} (C : Counted s ds d) (start long : ℕ) where
   -- nothing wanted stands below degree d in the turns from t on
   abbrev pub None : ℕ → Type 0
-  None t = NoneFrom (s .block) (s .z) ds d start long t
+  None t = NoneLater (s .block) (s .z) ds d start long t
 
   pub none-left : (t : ℕ) → t ≡ sentRows s d → None t
   none-left t e = rw e (taken.none-left (count-in C) start long)

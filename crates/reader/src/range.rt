@@ -1,5 +1,4 @@
-// The opener for a range of the message (document 02, e): it takes only the rows that reach the range. The whole message is
-// a range too, for which all rows are taken.
+// The opener for a range of the message (document 02, e): it takes only the rows that reach the range.
 ghost use mathlib.Core.Path.{_≡_};
 ghost use Prim.Native.Nat.{_+_};
 ghost use lib.Dec.{ltb};
@@ -35,7 +34,7 @@ pub fn reconstruct_range(
 ) -> Answer
     ensures { λ a. ⌜ RangeCall (parameters n r z (now (counts .entry))) «message_length» start «range_length» (now (parties .entry)) (now (prefixes .entry)) (now (out .entry)) a (now (out .exit)) ⌝ }
 {
-    opened(
+    open_range(
         Take::Needed,
         n,
         r,
@@ -76,8 +75,9 @@ pub fn reconstruct_range_default(
     )
 }
 
-// Opens a range of the message by the rows that are to be taken: all, or those that it needs.
-pub(crate) fn opened(
+// Opens a range of the message by the rows that are to be taken: all, where the range is the whole message, or those that
+// it needs.
+pub(crate) fn open_range(
     take: Take,
     n: u8,
     r: u8,

@@ -71,7 +71,7 @@ fn sends(block: usize, z: u8, d: u8, row: usize) -> bool
 
 // The group of a row, counted from 0: the place of the first count whose P is above the row, or the number
 // of counts where there is none.
-pub fn group_of(block: usize, z: u8, counts: &[u8], row: usize) -> usize
+fn group_of(block: usize, z: u8, counts: &[u8], row: usize) -> usize
     ensures { λ i. ⌜ i ≡ groupOf block z (now (counts .entry)) row ⌝ }
 {
     let mut i = 0;

@@ -14,7 +14,7 @@ use lib.ListN.{length, drop, getD}
 use lib.Seq.{drop-cons, drop-length}
 use borrow.Author.Tests.{eq-eqb, ne-eqb, eqb-true}
 use Rattle.lists.specs.Each.{Each}
-use Rattle.lists.specs.Search.{firstFrom}
+use Rattle.lists.specs.FirstFrom.{firstFrom}
 use Rattle.lists.proofs.Each.{each-imp}
 use Rattle.lists.proofs.FirstFrom.{NoneFrom, FirstFound, first-found}
 use Rattle.lists.proofs.Tests.{both}

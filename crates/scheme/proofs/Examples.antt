@@ -4,7 +4,7 @@ use mathlib.Core.Path.{_≡_, refl}
 use mathlib.Core.List.{[], _∷_}
 use Rattle.scheme.specs.Limits.{maxParties, maxCounts, maxBlock, maxMessage, maxBlocks, defaultN, defaultR, defaultZ, defaultCounts}
 use Rattle.scheme.specs.Outcome.{accepted, refused, firstOf, answer}
-use Rattle.lists.specs.Search.{firstFrom}
+use Rattle.lists.specs.FirstFrom.{firstFrom}
 use Rattle.scheme.specs.BlockLength.{divides, commonMultiple, blockLength}
 use Rattle.scheme.specs.Padding.{endMarker, paddedCount, mostPadded, blocksHeld}
 use Rattle.scheme.specs.Check.{falls, partiesRefused, thresholdsRefused, countsRefused, blockRefused, refusal, rowsOfCount, rowsOfBlock, blockCount, checked}

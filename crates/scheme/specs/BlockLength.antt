@@ -5,7 +5,7 @@ use mathlib.Core.List.{List, [], _∷_}
 use Prim.Native.Nat.{ℕ, _-_, _*_, _%_, _≤_, _<_, _∣_}
 use lib.Dec.{eqb}
 use Rattle.lists.specs.Each.{Each}
-use Rattle.lists.specs.Search.{firstFrom}
+use Rattle.lists.specs.FirstFrom.{firstFrom}
 
 -- does every d − z divide x?
 unfoldable pub divides : ℕ → List ℕ → ℕ → Bool

@@ -12,20 +12,21 @@ use borrow.Author.Tests.{le-ltb}
 use Rattle.lists.specs.Each.{Each, Byte}
 use Rattle.scheme.specs.declared.Answer.{Answer}
 use Rattle.scheme.specs.declared.Answer.the-variants.{Value, Refused}
+use Rattle.scheme.specs.Outcome.{accepted}
 use Rattle.scheme.proofs.Laws.{default-accepted, end, line, above, other, no-count, not-rising, after-scheme, answered-by, told-accepted, told-refused, kept, readers-pass, parties-distinct, done, pass, pass-within, pass-false, pass-same, numbered, answer-none}
 use Rattle.family.proofs.Message.{blocks-cover}
 use Rattle.staircase.specs.Parameters.{Parameters, AcceptedScheme, defaultParameters, block, blocksOf}
 use Rattle.staircase.specs.Exactness.{prefixBytes, openedString, Opened}
 use Rattle.staircase.proofs.Sizes.{block-some}
 use Rattle.dealer.specs.Split.{splitOutput}
-use Rattle.reader.specs.Reconstruct.{reconstructAnswer, reconstructOutput}
+use Rattle.reader.specs.Reconstruct.{reconstructRefusal, reconstructAnswer, reconstructOutput}
 use Rattle.reader.specs.Range.{takenRows, rangeRefusal, rangeAnswer, rangeOutput, RangeCall}
 use Rattle.reader.proofs.Laws.{RangeGiven, range-given, range-count, range-cut, rows-not-taken}
 use Rattle.sharing.specs.RoundTrip.{handed}
 use Rattle.sharing.specs.Range.{OpenedRange, OpensRange, EveryRange, RangeSettled, UntakenRows, RangeRoundTrip}
 use Rattle.sharing.proofs.Opening.{opened-of}
 use Rattle.sharing.proofs.Calls.{one-answer}
-use Rattle.sharing.proofs.RoundTrip.{handed-long, message-back}
+use Rattle.sharing.proofs.RoundTrip.{handed-bytes, message-back}
 use Rattle.sharing.proofs.Secrecy.{same-answer}
 
 -- ---- what an accepted call did
@@ -55,6 +56,14 @@ module _ (p : Parameters) (message start long : ℕ) (parties prefixes before : 
   covers : start + long ≤ length B
   covers = rw (opened .bytes .0) (omega (arith, given .inside, blocks-cover (block p) message (block-some p (given .good))))
 
+  -- no refusal applies to the full opener either
+  full-accepts : (before′ : List ℕ) → length before′ ≡ message → reconstructRefusal p message parties (length prefixes) (length before′) ≡ 0
+  unfolding reconstructRefusal
+  full-accepts before′ room =
+      numbered
+      (pass (given .good)
+      (pass-within 5 (given .short) (pass-false 6 (ap not (given .count)) (pass-false 7 (given .passed) (pass-same 9 (given .sent) (pass-same 10 room done))))))
+
   opened-range : OpenedRange p message start long parties prefixes used after
   unfolding rangeAnswer reconstructAnswer reconstructOutput prefixBytes
   opened-range =
@@ -64,9 +73,10 @@ module _ (p : Parameters) (message start long : ℕ) (parties prefixes before : 
         output = output;
         inside = given .inside;
         long-is = ap length output ∙ length-take-le long _ (rw length-drop (omega (arith, covers)));
-        full = λ before′ whole all F.
-            let full = told-accepted (Value all) _ _ (F .0) refl in
-            cut ∙ ap (λ (l : List ℕ). take long (drop start l)) (sym (F .1 ∙ rw (full .0)));
+        full = λ before′ whole a room F. (
+          same-answer a (Value (length prefixes)) (F .0 ∙ answer-none _ _ (full-accepts before′ room) ∙ ap (λ (x : ℕ). accepted (x ∷ [])) (sym (given .sent))),
+          cut ∙ ap (λ (l : List ℕ). take long (drop start l)) (sym (F .1 ∙ rw (full-accepts before′ room))),
+        );
         used-is = told .1;
         rows = rows;
         used-most = rw (told .1, given .sent) (rows .most (blocksOf p message));
@@ -115,17 +125,22 @@ untaken-rows p message start long size parties prefixes prefixes′ before a a�
 
 pub range-round-trip : (p : Parameters) → AcceptedScheme p → RangeRoundTrip p
 unfolding rangeOutput rangeAnswer rangeRefusal
-range-round-trip p A message keys bytes short K parties counted rising before out room start inside =
+range-round-trip p A message keys bytes short K parties counted rising before out room start inside prefixes B same =
     let right = parties-distinct (p .n) parties rising in
-    let long = handed-long p A message keys bytes short K parties counted (right .0) (right .1) before room in
-    let passed = readers-pass (p .n) parties rising in
-    let passes : rangeRefusal p (length message) start (length out) parties (length (handed p (length message) parties (splitOutput p message keys before))) (length out) ≡ 0 =
+    let handed-are = handed-bytes p A message keys bytes short K parties counted (right .0) (right .1) before room in
+    let sent : List ℕ = handed p (length message) parties (splitOutput p message keys before) in
+    let passes : (prefixes : List ℕ) → length prefixes ≡ prefixBytes p (length parties) (blocksOf p (length message))
+    → rangeRefusal p (length message) start (length out) parties (length prefixes) (length out) ≡ 0 =
+    λ prefixes long.
     numbered
     (pass A
     (pass-within 5 short
-    (pass-false 6 (ap not counted) (pass-false 7 passed (pass-within 15 inside (pass-same 9 long (pass-same {a = length out} {b = length out} 10 refl done))))))) in (
-      answer-none _ _ passes,
-      rw passes
+    (pass-false 6 (ap not counted)
+    (pass-false 7 (readers-pass (p .n) parties rising)
+    (pass-within 15 inside (pass-same 9 long (pass-same {a = length out} {b = length out} 10 refl done))))))) in (
+      answer-none _ _ (passes prefixes (B .0)),
+      sym (rows-not-taken p (length message) start (length out) _ parties sent prefixes out handed-are B same .1)
+          ∙ rw (passes sent (handed-are .0))
           (ap (λ (l : List ℕ). take (length out) (drop start l)) (message-back p A message keys bytes short K parties counted (right .0) (right .1) before room)),
     )
 

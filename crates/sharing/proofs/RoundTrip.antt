@@ -11,7 +11,7 @@ use lib.Seq.{length-take-le}
 use borrow.Author.Tests.{ne-eqb, le-ltb}
 use Rattle.lists.specs.Each.{Each, Distinct, Byte, occurs}
 use Rattle.lists.specs.Table.{joined}
-use Rattle.lists.proofs.Each.{each-getD}
+use Rattle.lists.proofs.Each.{each-getD, each-take, each-joined}
 use Rattle.lists.proofs.Joined.{length-joined, joined-same, piece-joined}
 use Rattle.scheme.specs.Limits.{maxMessage}
 use Rattle.scheme.specs.Outcome as outcome
@@ -28,6 +28,7 @@ use Rattle.family.proofs.Shares.{length-share}
 use Rattle.staircase.specs.Parameters.{Parameters, AcceptedScheme, Party, defaultParameters, block, rows, blocksOf, paddedBlocksOf, keyBytes, outputBytes}
 use Rattle.staircase.specs.Shares.{staircase, shares, paddedShares, partOf, KeyString, PaddedKeyString}
 use Rattle.staircase.specs.Exactness.{prefixBytes, openedString}
+use Rattle.staircase.proofs.Construction.{share-bytes}
 use Rattle.staircase.proofs.Hidden.{part-is-share}
 use Rattle.staircase.proofs.Sizes.{block-some, rows-within, rows-some, sent-some}
 use Rattle.staircase.proofs.WholeBlocks.{keys-number, exact, bytes-number}
@@ -78,6 +79,12 @@ module _ (p : Parameters) (A : AcceptedScheme p) (N : ℕ) (blocks keys : List �
   sent-long =
       length-joined {A = ℕ} (length parties) (rowsSent * N) _ (λ a _. prefix-long a) ∙ sym (bytes-number p A parties counted apart inside N)
 
+  sent-bytes : Each Byte sent
+  unfolding firstRows
+  sent-bytes =
+      each-joined {A = ℕ} Byte (length parties) _
+      (λ a _. each-take Byte (rowsSent * N) (shareAt a) (share-bytes p A N blocks keys B K (getD parties a 0)))
+
   returned : openedString p parties N sent ≡ blocks
   unfolding openedString staircase
   returned =
@@ -109,8 +116,11 @@ module _ (p : Parameters) (A : AcceptedScheme p) (message keys : List ℕ) (byte
       rw (written p message keys before (none-applies p A (length message) (length keys) (length before) short (K .0) room))
       (handed-sent p A N (padded (block p) message) keys whole K parties counted apart inside (prefixOf p (length message) (length parties)) prefix-handed)
 
-  pub handed-long : length (handed p (length message) parties (splitOutput p message keys before)) ≡ prefixBytes p (length parties) N
+  handed-long : length (handed p (length message) parties (splitOutput p message keys before)) ≡ prefixBytes p (length parties) N
   handed-long = ap length handed-is ∙ sent-long p A N (padded (block p) message) keys whole K parties counted apart inside
+
+  pub handed-bytes : Bytes (prefixBytes p (length parties) N) (handed p (length message) parties (splitOutput p message keys before))
+  handed-bytes = (handed-long, rw handed-is (sent-bytes p A N (padded (block p) message) keys whole K parties counted apart inside))
 
   pub message-back : take (length message) (openedString p parties N (handed p (length message) parties (splitOutput p message keys before))) ≡ message
   message-back =

@@ -13,7 +13,7 @@ use Rattle.gf256.specs.Byte.{_⊕_, _⊗_, cut, reduce, inverseBelow, inverse}
 use Rattle.interpolation.specs.Polynomial as polynomial
 use Rattle.interpolation.specs.Polynomial.{next, eval, plus, scale, linear, above}
 use Rattle.interpolation.specs.Interpolation.{through, fitted}
-use Rattle.lists.specs.Search.{firstFrom}
+use Rattle.lists.specs.FirstFrom.{firstFrom}
 use Rattle.scheme.specs.BlockLength.{divides, commonMultiple, blockLength}
 use Rattle.scheme.specs.Check.{falls, partiesRefused, thresholdsRefused, countsRefused, blockRefused, refusal, rowsOfCount, rowsOfBlock, blockCount, checked}
 use Rattle.family.specs.Message.{padded}

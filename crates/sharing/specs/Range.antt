@@ -18,7 +18,7 @@ use Rattle.scheme.specs.Readers.{Rising}
 use Rattle.family.specs.Message.{Bytes}
 use Rattle.staircase.specs.Parameters.{Parameters, prefixRows, blocksOf, outputBytes}
 use Rattle.staircase.specs.Shares.{KeyString}
-use Rattle.staircase.specs.Exactness.{openedString, Opened}
+use Rattle.staircase.specs.Exactness.{prefixBytes, openedString, Opened}
 use Rattle.dealer.specs.Split.{splitOutput}
 use Rattle.reader.specs.Reconstruct.{ReconstructCall}
 use Rattle.reader.specs.Range.{takenRows, rangeAnswer, rangeOutput, RangeCall, SameInTurns, CountedRows}
@@ -33,8 +33,9 @@ pub record OpenedRange (p : Parameters) (message start long : ℕ) (parties pref
   pub output : after ≡ take long (drop start (openedString p parties (blocksOf p message) prefixes))
   pub inside : start + long ≤ message
   pub long-is : length after ≡ long
-  -- it is that range of what every accepted call of the full opener writes that is lent the same
-  pub full : (before whole : List ℕ) (all : ℕ) → ReconstructCall p message parties prefixes before (Value all) whole → after ≡ take long (drop start whole)
+  -- a call of the full opener that is lent the same, with an output of the message's length, is accepted too, and this is that range of what it writes
+  pub full : (before whole : List ℕ) (a : Answer) → length before ≡ message → ReconstructCall p message parties prefixes before a whole
+      → (a ≡ Value (length prefixes)) × (after ≡ take long (drop start whole))
   -- d × rows taken × N bytes were used, and the rows taken are the fewest of the reader's order that reach the range
   pub used-is : used ≡ length parties * takenRows p (length parties) start long * blocksOf p message
   pub rows : CountedRows p (length parties) start long
@@ -87,15 +88,19 @@ UntakenRows p =
     → RangeCall p message start long parties prefixes before a after → RangeCall p message start long parties prefixes′ before a′ after′
     → (a ≡ a′) × (after ≡ after′)
 
--- of an accepted scheme (`range-round-trip`), the range of what was split is the message's: the opener of a range inside it, lent the prefixes that the
--- parties hand back, accepts, and writes it
+-- the first lines before the rest: of an accepted scheme (`range-round-trip`) the range of what was split is the message's, whatever stands in the rows
+-- that are not taken. The opener of a range inside it, lent as many bytes as the parties hand back, of which those in the rows taken are theirs, accepts,
+-- and writes it
 abbrev pub RangeRoundTrip : Parameters → Type 0
 RangeRoundTrip p =
     (message keys : List ℕ) → Each Byte message → length message ≤ maxMessage → KeyString p (length message) keys
     → (parties : List ℕ) → occurs (length parties) (p .counts) ≡ true → Rising 0 (p .n) parties
     → (before out : List ℕ) → length before ≡ outputBytes p (blocksOf p (length message))
     → (start : ℕ) → start + length out ≤ length message
-    → let prefixes : List ℕ = handed p (length message) parties (splitOutput p message keys before) in
-    (rangeAnswer p (length message) start (length out) parties (length prefixes) (length out)
-    ≡ accepted (length parties * takenRows p (length parties) start (length out) * blocksOf p (length message) ∷ []))
+    → let d : ℕ = length parties in
+    let N : ℕ = blocksOf p (length message) in
+    let taken : ℕ = takenRows p d start (length out) in
+    (prefixes : List ℕ) → Bytes (prefixBytes p d N) prefixes
+    → SameInTurns p d N taken (handed p (length message) parties (splitOutput p message keys before)) prefixes
+    → (rangeAnswer p (length message) start (length out) parties (length prefixes) (length out) ≡ accepted (d * taken * N ∷ []))
     × (rangeOutput p (length message) start (length out) parties prefixes out ≡ take (length out) (drop start message))

@@ -8,7 +8,7 @@ use Rattle.lists.specs.Table.{tabulate, joined, piece, pieces, flat}
 use Rattle.gf256.specs.Byte as byte
 use Rattle.gf256.specs.Byte.{_⊕_, _⊗_, cut, reduce}
 use Rattle.interpolation.specs.Polynomial.{next, eval}
-use Rattle.lists.specs.Search.{firstFrom}
+use Rattle.lists.specs.FirstFrom.{firstFrom}
 use Rattle.scheme.specs.BlockLength.{divides, commonMultiple, blockLength}
 use Rattle.scheme.specs.Check.{rowsOfCount, rowsOfBlock, blockCount}
 use Rattle.scheme.specs.Padding.{paddedCount}

@@ -4,7 +4,7 @@ use crate::arguments::{paths, usage, Arguments};
 use crate::failure::{Done, Failure};
 use crate::files::{read, Output, Place};
 use crate::form::Form;
-use crate::range::Range;
+use crate::range::{rows_in_order, Range};
 use crate::report::{counted, say};
 use crate::scheme::Scheme;
 use crate::{archive, help, reconstruct};
@@ -55,7 +55,7 @@ fn scheme(arguments: &Arguments) -> Done {
     let block = scheme.check()?;
     let (needs, columns) = match range {
         None => (String::new(), ""),
-        Some(range) => (format!(", and what of them the range {range} needs"), "  rows   of  bytes"),
+        Some(range) => (format!(", and what of them the range {range} needs"), "  rows   of  bytes  which rows"),
     };
     let mut text = format!(
         "{scheme}\nA block has {} in {}, and takes {}.\n\
@@ -70,7 +70,7 @@ fn scheme(arguments: &Arguments) -> Done {
         if let Some(range) = range {
             // A row is a byte of the block from each party.
             let rows = range.rows(&scheme, &block, d)?;
-            text += &format!("  {rows:4}  {bytes:3}  {:5}", d * rows);
+            text += &format!("  {rows:4}  {bytes:3}  {:5}  {}", d * rows, rows_in_order(&scheme, &block, d, rows));
         }
         text += "\n";
     }

@@ -28,30 +28,15 @@ impl Form {
         }
     }
 
-    /// What is not known of a message that was opened, whole or a range of it.
-    pub fn caution(self, whole: bool) -> &'static str {
-        match (self, whole) {
-            (Form::Padded, true) => {
+    /// What is not known of a message that was opened.
+    pub fn caution(self) -> &'static str {
+        match self {
+            Form::Padded => {
                 "Only its end could be checked: a wrong scheme, party, prefix, form or number of readers can go unnoticed."
             }
-            (Form::Padded, false) => {
-                "Nothing of a range is checked: a wrong scheme, party, prefix, form or number of readers can go unnoticed."
-            }
-            (Form::Told(_), _) => {
+            Form::Told(_) => {
                 "Nothing can tell whether the scheme, the length, the parties and the prefixes were the right ones."
             }
-        }
-    }
-
-    /// The length of message that the opener of ranges is told where the prefixes have so many blocks. It takes the earlier
-    /// form, of which whole blocks, padding and all, are a message too. What passes the longest message is padding, and left
-    /// out; but where that is a block of its own, the blocks are told as they are, which is too long.
-    pub fn length_for_range(self, block: &Block, blocks: usize) -> usize {
-        let (most, most_told) = (block.padded_blocks(MAX_MESSAGE), block.blocks(MAX_MESSAGE));
-        match self {
-            Form::Told(length) => length,
-            Form::Padded if blocks == most && most > most_told => blocks * block.bytes,
-            Form::Padded => MAX_MESSAGE.min(blocks * block.bytes),
         }
     }
 

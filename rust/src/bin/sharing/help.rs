@@ -73,8 +73,9 @@ bytes it takes, and for each count how many bytes of a block each party sends, a
   D1,D2..   the counts: numbers of parties to read from, falling, the last one N - R
 
 With --range or --first the table goes on: how many of the rows that each party sends are needed for these
-bytes of a message, and how many bytes of a block those are, from all parties together. The byte at place P,
-counted from 0, is the range P..P+1. reconstruct --help says more of ranges.
+bytes of a message, how many bytes of a block those are, from all parties together, and which rows they are, in
+the order in which they are used, numbered from 0. The byte at place P, counted from 0, is the range P..P+1.
+reconstruct --help says more of ranges.
 
 Spaces may stand for the commas, here and after --scheme. The former default was {former}.
 ",
@@ -138,33 +139,38 @@ order: they are sorted.
 
 --range START..END writes only the bytes from START up to END, END not included, counted from 0; --first BYTES
 is --range 0..BYTES. It is for who wants the first lines while the rest is still on its way: not all rows of
-the prefixes are used, and what stands in the others changes nothing. So each FILE must have its full length,
-but zeros may stand where nothing has arrived. A row has a byte of each block, and the rows stand in the
-prefix one after another: first those that are sent for the first count, then those that each further count
-adds, down to the number of parties here. What a count adds is a group. The last group is used first, then
-the one before it, the rows of each from first to last, and no more as soon as every byte of the range, or a
-copy of it, stands in a row that was used. So with fewer parties than the first count it is the ends of the
-prefixes that have to be there first. sharing scheme --range says how many rows are used.
+the prefixes are used, and what stands in the others changes nothing. Each FILE must have its full length, but
+anything may stand in the rows that are not used. A row that is used and has not come opens to other bytes,
+and nothing notices it: sharing scheme --range says beforehand which rows are used, and the report which were.
+
+A row has a byte of each block, and the rows stand in a prefix one after another: with N blocks, row J is the
+bytes from J x N to J x N + N - 1, J counted from 0. Each count adds rows to those of the count before it. The
+rows that the number of parties here adds are used first, then those that the count before it adds, and so on,
+each time from the first to the last, and no more as soon as every byte of the range, or a copy of it, stands
+in a row that was used. So with fewer parties than the first count it is the ends of the prefixes that have to
+be there first.
 
 A row is used for all blocks, so a range as long as a block needs all rows. In the default scheme, with blocks
 of 6 bytes, every range of 6 bytes or more does, and the first byte alone takes 1 of 2, 2 of 3 and 5 of 6 rows
 for 5, 4 and 3 parties. A range pays in schemes with long blocks.
 
-Nothing of a range is checked, with --length or without. Without --length the message's end is not looked for
-either: a range may go on in the padding, up to the end of the last block, and the report says from which
-byte on that may be; and of a message of {MAX_MESSAGE} bytes that fills its blocks no range is opened, only the whole.
+Where not all rows are used nothing of a range is checked, and without --length it is not known where the
+message ends: the range may go on in the padding, and the report says from which byte on that may be. Where
+all rows are used, the end is looked for as it is for the whole message.
 
 Whether the message is the right one cannot be seen here. A false byte, a wrong party, a prefix that was
 cut for another number of readers or a scheme that is not the message's is noticed only if the last block
 then does not end as padding does: false bytes in other blocks always pass, and a false last block may.
 So may a message of the earlier form that is opened without --length: where it ends in a byte 128, or in
 128 and zeros, what stands before that byte is taken for the whole message.
-With --length nothing is noticed, a wrong L included, as long as the lengths fit.
+With --length nothing is noticed, a wrong L included, as long as the lengths fit, and so it is of a range for
+which not all rows are used.
 
 Shares of the former default, those that were split without a scheme while that was {former}, need
 --scheme {former}. Without it they are taken for shares of the default scheme, and other bytes, or
 pieces of the message, may be written without a refusal: with --length where the lengths fit, and without it
-where the message's end comes out as an end in that scheme too, as it does for many lengths.
+where the message's end comes out as an end in that scheme too, as it does for many lengths, or is not looked
+for, as for a range that does not need all rows.
 ",
         former = Scheme::former_default().in_a_row()
     )

@@ -38,6 +38,11 @@ impl Range {
         self.length() > 0 && self.end > byte
     }
 
+    /// Does it lie in the first so many bytes?
+    pub fn is_within(&self, bytes: usize) -> bool {
+        self.end <= bytes
+    }
+
     /// The bytes used and those of the range, of a message of this length in the earlier form; or the number of the refusal.
     pub fn open(&self, scheme: &Scheme, length: usize, parties: &[u8], prefixes: &[u8]) -> Result<(u64, Vec<u8>), u64> {
         let Scheme { n, r, z, ref counts, .. } = *scheme;
@@ -65,16 +70,37 @@ impl Range {
         }
     }
 
-    /// For a report: which bytes are in a file.
-    pub fn is_in(&self, file: &OsStr) -> String {
+    /// For a report: which bytes of what are in a file.
+    pub fn is_in(&self, file: &OsStr, of: &str) -> String {
         match self.length() {
             0 => format!("The range {self} is empty, and so is {file:?}"),
-            1 => format!("Byte {} of the message is in {file:?}", self.start),
+            1 => format!("Byte {} of {of} is in {file:?}", self.start),
             many => {
                 let (last, bytes) = (self.end - 1, counted(many, "byte"));
-                format!("Bytes {} to {last} of the message, {bytes}, are in {file:?}", self.start)
+                format!("Bytes {} to {last} of {of}, {bytes}, are in {file:?}", self.start)
             }
         }
+    }
+}
+
+/// Which rows are used first where d parties are read from, so many of them: those of the last group that is sent, then
+/// those of the group before it, and so on.
+pub fn rows_in_order(scheme: &Scheme, block: &Block, d: usize, mut rows: usize) -> String {
+    let ends = scheme.counts.iter().map(|&count| block.prefix_of_block(count as usize));
+    let mut groups: Vec<usize> = [0].into_iter().chain(ends).take_while(|&end| end <= block.prefix_of_block(d)).collect();
+    let mut words = Vec::new();
+    while let (Some(end), Some(&start)) = (groups.pop(), groups.last()) {
+        match rows.min(end - start) {
+            0 => {}
+            1 => words.push(start.to_string()),
+            many => words.push(format!("{start}-{}", start + many - 1)),
+        }
+        rows = rows.saturating_sub(end - start);
+    }
+    if words.is_empty() {
+        "none".to_string()
+    } else {
+        words.join(" ")
     }
 }
 

@@ -4,7 +4,7 @@ use crate::arguments::{file_before_parties, party_and_file, usage, Arguments};
 use crate::failure::{Done, Failure};
 use crate::files::{read, Input, Output, Place};
 use crate::form::Form;
-use crate::range::Range;
+use crate::range::{rows_in_order, Range};
 use crate::report::counted;
 use crate::scheme::{Block, Scheme};
 use gilunavoi::library;
@@ -19,13 +19,20 @@ pub fn run(arguments: &Arguments) -> Done {
     let opening = Opening::new(arguments, words)?;
     let answer = opening.open();
     // The library sees the prefixes joined: one too long and one too short by as much would pass there. A range of a padded
-    // message it refuses, 5 or 15, by the number of blocks that all of them together seem to have.
-    if matches!((&answer, opening.form), (Ok(_) | Err(9 | 11), _) | (Err(5 | 15), Form::Padded)) {
+    // message it refuses, 15, by the number of blocks that all of them together seem to have.
+    if matches!((&answer, opening.form), (Ok(_) | Err(9 | 11), _) | (Err(15), Form::Padded)) {
         opening.check_each().map_err(|failure| opening.scheme.suspected(failure))?;
     }
-    let (used, bytes) = answer.map_err(|number| opening.refused(number))?;
-    let output = Output::one_file(&place, &bytes)?;
-    output.keep(&opening.report(used, bytes.len(), out))
+    let opened = answer.map_err(|number| opening.refused(number))?;
+    let output = Output::one_file(&place, &opened.bytes)?;
+    output.keep(&opening.report(&opened, out))
+}
+
+/// What was opened: the prefix bytes used, the message or the range of it, and whether it is known where the message ends.
+struct Opened {
+    used: u64,
+    bytes: Vec<u8>,
+    end_known: bool,
 }
 
 /// What the parties sent, and what is to be made of it.
@@ -73,28 +80,60 @@ impl Opening {
         }
     }
 
-    /// The bytes used and those opened, or the number of the refusal.
-    fn open(&self) -> Result<(u64, Vec<u8>), u64> {
+    /// The prefixes, one after another.
+    fn joined(&self) -> Vec<u8> {
+        self.prefixes.iter().flat_map(|prefix| prefix.bytes.iter().copied()).collect()
+    }
+
+    /// The number of the refusal, or what is opened.
+    fn open(&self) -> Result<Opened, u64> {
         let Scheme { n, r, z, ref counts, .. } = self.scheme;
-        let joined: Vec<&[u8]> = self.prefixes.iter().map(|prefix| &prefix.bytes[..]).collect();
-        let (parties, prefixes) = (&self.parties, &joined.concat());
-        match (self.range, self.form) {
-            (Some(range), form) => {
-                range.open(&self.scheme, form.length_for_range(&self.block, self.blocks()), parties, prefixes)
-            }
+        let (used, bytes) = match (self.range, self.form) {
+            (Some(range), Form::Padded) => return self.padded_range(range),
+            (Some(range), Form::Told(length)) => range.open(&self.scheme, length, &self.parties, &self.joined())?,
+            (None, Form::Padded) => self.padded_message()?,
             (None, Form::Told(length)) => {
                 // A longer message is refused before its room is looked at, so that no number asks for too much.
                 let mut message = vec![0; length.min(MAX_MESSAGE)];
-                let used = library::reconstruct(n, r, z, counts, length, parties, prefixes, &mut message)?;
-                Ok((used, message))
+                let prefixes = self.joined();
+                let used = library::reconstruct(n, r, z, counts, length, &self.parties, &prefixes, &mut message)?;
+                (used, message)
             }
-            (None, Form::Padded) => {
-                let mut message = vec![0; self.blocks() * self.block.bytes];
-                let (used, length) = library::reconstruct_padded(n, r, z, counts, parties, prefixes, &mut message)?;
-                message.truncate(length as usize);
-                Ok((used, message))
-            }
+        };
+        Ok(Opened { used, bytes, end_known: true })
+    }
+
+    /// The bytes used, and the message without its padding.
+    fn padded_message(&self) -> Result<(u64, Vec<u8>), u64> {
+        let Scheme { n, r, z, ref counts, .. } = self.scheme;
+        let mut message = vec![0; self.blocks() * self.block.bytes];
+        let (used, length) =
+            library::reconstruct_padded(n, r, z, counts, &self.parties, &self.joined(), &mut message)?;
+        message.truncate(length as usize);
+        Ok((used, message))
+    }
+
+    /// The bytes of the blocks that a message may have. A block after them is padding alone.
+    fn bytes_in_blocks(&self) -> usize {
+        MAX_MESSAGE.min(self.blocks() * self.block.bytes)
+    }
+
+    /// The library takes the earlier form for a range, of which whole blocks, padding and all, are a message too.
+    fn padded_range(&self, range: Range) -> Result<Opened, u64> {
+        let (blocks, length) = (self.blocks(), self.bytes_in_blocks());
+        let kept = self.block.blocks(length);
+        let mut prefixes = self.joined();
+        if kept < blocks {
+            // A row has a byte of each block.
+            prefixes = prefixes.chunks(blocks).flat_map(|row| row.iter().take(kept).copied()).collect();
         }
+        let (used, bytes) = range.open(&self.scheme, length, &self.parties, &prefixes)?;
+        // Where all rows are used, the whole message is there, and its end can be looked for.
+        let end_known = used > 0 && used as usize == prefixes.len();
+        if end_known && !range.is_within(self.padded_message()?.1.len()) {
+            return Err(15);
+        }
+        Ok(Opened { used, bytes, end_known })
     }
 
     /// Refuses the first prefix whose length is none that so many parties send, or is not the others'.
@@ -121,10 +160,6 @@ impl Opening {
         let parties = &self.parties;
         let detail = match (number, self.form, self.range) {
             (5, Form::Told(length), _) => format!("--length is {length}"),
-            (5, Form::Padded, _) => {
-                let bytes = self.blocks() * self.block.bytes;
-                format!("for a range its padding counts too, which makes {bytes} bytes: it can only be opened whole")
-            }
             (11, form, _) => {
                 let (d, hint) = (parties.len(), form.hint());
                 format!("the parties are {parties:?}\nevery prefix must have been cut for {d} readers, and {hint}")
@@ -133,48 +168,57 @@ impl Opening {
             (15, Form::Told(length), Some(range)) => {
                 return Failure::Refused(15, format!("the range is {range}, and --length is {length}"));
             }
-            (15, Form::Padded, Some(range)) => format!("the range is {range}, and {}", self.blocks_in_all()),
+            (15, Form::Padded, Some(range)) => format!("the range is {range}, and {}", self.has(range)),
             _ => format!("the parties are {parties:?}, and the scheme is {}", self.scheme),
         };
         self.scheme.suspected(Failure::Refused(number, detail))
     }
 
-    fn blocks_in_all(&self) -> String {
-        let bytes = self.blocks() * self.block.bytes;
-        let in_all = format!("the blocks have {} in all", counted(bytes, "byte"));
-        if bytes > MAX_MESSAGE {
-            format!("{in_all}, of which a message has at most {MAX_MESSAGE}")
-        } else {
-            in_all
-        }
-    }
-
-    /// A line more on a range that goes on in the last block of a padded message.
-    fn end_in_range(&self, range: Range) -> String {
-        let last_block = self.blocks().saturating_sub(1) * self.block.bytes;
-        match self.form {
-            Form::Padded if range.reaches(last_block) => format!(
-                "From byte {last_block} on the message may be over, and padding follow: \
-                 its end is not looked for when a range is opened.\n"
-            ),
-            _ => String::new(),
+    /// What a range goes past: the message, where all of it was opened, or the blocks.
+    fn has(&self, range: Range) -> String {
+        match self.padded_message() {
+            Ok((_, message)) if range.is_within(self.bytes_in_blocks()) => {
+                format!("the message has {}", counted(message.len(), "byte"))
+            }
+            _ => format!("the blocks have room for {} of a message", counted(self.bytes_in_blocks(), "byte")),
         }
     }
 
     /// What is said of the bytes that were opened.
-    fn report(&self, used: u64, bytes: usize, out: &OsStr) -> String {
-        let d = self.parties.len();
-        let told = match self.range {
+    fn report(&self, opened: &Opened, out: &OsStr) -> String {
+        let (d, used, scheme) = (self.parties.len(), opened.used, self.scheme.used_by_readers());
+        let (told, caution) = match self.range {
             None => {
-                let bytes = counted(bytes, "byte");
-                format!("The message, {bytes}, is in {out:?}; {used} bytes were fetched from {d} parties.\n")
+                let bytes = counted(opened.bytes.len(), "byte");
+                let told = format!("The message, {bytes}, is in {out:?}; {used} bytes were fetched from {d} parties.\n");
+                (told, self.form.caution())
             }
-            Some(range) => {
-                let (is_in, sent, end) = (range.is_in(out), self.sent(), self.end_in_range(range));
-                format!("{is_in}; {used} bytes were used of {sent} in the prefixes of {d} parties.\n{end}")
-            }
+            Some(range) => self.report_on_range(range, opened, out),
         };
-        let caution = self.form.caution(self.range.is_none());
-        format!("{told}The scheme is {}.\n{caution}\n", self.scheme.used_by_readers())
+        format!("{told}The scheme is {scheme}.\n{caution}\n")
+    }
+
+    fn report_on_range(&self, range: Range, opened: &Opened, out: &OsStr) -> (String, &'static str) {
+        let (d, used, sent) = (self.parties.len(), opened.used, self.sent());
+        let last_block = self.blocks().saturating_sub(1) * self.block.bytes;
+        let may_be_over = !opened.end_known && range.reaches(last_block);
+        let is_in = range.is_in(out, if may_be_over { "the blocks" } else { "the message" });
+        let rows = self.rows_used(range);
+        let told = format!("{is_in}; {used} bytes were used of {sent} in the prefixes of {d} parties, {rows}.\n");
+        let end = format!("From byte {last_block} on the message may be over, and padding follow: not all rows were used.\n");
+        match (self.form, opened.end_known) {
+            (Form::Padded, false) => (format!("{told}{}", if may_be_over { &end } else { "" }), NOT_CHECKED),
+            _ => (told, self.form.caution()),
+        }
+    }
+
+    /// How many rows are used for a range that was opened, and which.
+    fn rows_used(&self, range: Range) -> String {
+        let (d, block) = (self.parties.len(), &self.block);
+        let rows = range.rows(&self.scheme, block, d).unwrap_or(0);
+        format!("{rows} of {} ({})", counted(block.prefix_of_block(d), "row"), rows_in_order(&self.scheme, block, d, rows))
     }
 }
+
+const NOT_CHECKED: &str = "Nothing of it could be checked: a wrong scheme, party, prefix, form or number of readers, or a row \
+                           that has not come, can go unnoticed.";

@@ -13,5 +13,5 @@ reconstruct-range-spec =
     (λ c κs. search needs)
     (λ c. search needs)
     (λ c.
-    let call = c .before .before .opened .ensures in
+    let call = c .before .before .open-range .ensures in
     (call .0 ∙ needed-answer _ _ _ _ _ _ _, call .1)))

@@ -11,7 +11,7 @@ use borrow.Author.Needs.{needs}
 use Rattle.interpolation.specs.Interpolation.{side}
 use Rattle.order.specs.ReadingOrder.{rowInTurn}
 use Rattle.order.proofs.ReadingOrder.{code-turn}
-use Rattle.order.proofs.RowsTaken.{NoneFrom}
+use Rattle.order.proofs.RowsTaken.{NoneLater}
 use Rattle.reader.specs.Decoding.{sentRows, PlacesBelow}
 use Rattle.reader.specs.Opening.{HoldsWanted}
 use Rattle.reader.proofs.CountedScheme.{A, count-high}
@@ -21,7 +21,7 @@ use Rattle.reader.proofs.taking.rows_taken.Tie as tie
 
 abbrev Inv-loop : tie.InvT-loop
 Inv-loop s counts d start range-length groups from taken₀ taken =
-    (taken ≤ sentRows s d) × NoneFrom (s .block) (s .z) counts d start range-length taken
+    (taken ≤ sentRows s d) × NoneLater (s .block) (s .z) counts d start range-length taken
 
 abbrev μ-loop : tie.MeasureT-loop
 μ-loop s counts d start range-length groups from taken₀ taken = taken

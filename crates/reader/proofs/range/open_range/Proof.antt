@@ -1,4 +1,4 @@
--- `reader::range::opened` meets its contract: each way out is a way through the refusals, and the products fit since the scheme is accepted, the
+-- `reader::range::open_range` meets its contract: each way out is a way through the refusals, and the products fit since the scheme is accepted, the
 -- message is not too long and the parties are at most 16; the rows that are taken reach the range.
 -- Assumes nothing.
 use mathlib.Core.Path.{_≡_, sym, ap, _∙_}
@@ -27,8 +27,8 @@ use Rattle.reader.specs.Opening.{openedAnswer}
 use Rattle.reader.proofs.CountedScheme.{counted-of}
 use Rattle.reader.proofs.OpenerAnswers.{bytes-are, bytes-parts, rows-small, bytes-small, told-fits}
 use Rattle.reader.proofs.RangeAnswers.{turns-reach, opens}
-use Rattle.reader.proofs.range.opened.Statement.{statement}
-use Rattle.reader.proofs.range.opened.Tie as tie
+use Rattle.reader.proofs.range.open_range.Statement.{statement}
+use Rattle.reader.proofs.range.open_range.Tie as tie
 
 -- past the let-else: what holds of the accepted scheme, and what the next tests ask
 module _ (c : tie.After-ends-past) where
@@ -97,9 +97,9 @@ sent-are c =
     let o = tests (c .before .before) in
     bytes-are _ _ (is o) _ _ (c .rows-of-count .ensures) _ ∙ ap (prefixBytes _ _) (blocks-are _ _ (is o) _ _ (c .before .block-count .ensures))
 
-pub opened-spec : {M : Type 1} → statement M
+pub open-range-spec : {M : Type 1} → statement M
 unfolding rangeRefusal openedAnswer rangeOutput
-opened-spec =
+open-range-spec =
     tie.close
     (tie.spec
     (λ c κs. search needs)
