@@ -126,7 +126,8 @@ fn ranges_of_messages() {
     }
 }
 
-const NOT_CHECKED: &str = "Nothing of it could be checked: a wrong scheme, party, prefix, form or number of readers, or a row \
+const NOT_CHECKED: &str =
+    "Nothing of it could be checked: a wrong scheme, party, prefix, form or number of readers, or a row \
                            that has not come, can go unnoticed.\n";
 const END_CHECKED: &str =
     "Only its end could be checked: a wrong scheme, party, prefix, form or number of readers can go unnoticed.\n";

@@ -87,7 +87,8 @@ impl Range {
 /// those of the group before it, and so on.
 pub fn rows_in_order(scheme: &Scheme, block: &Block, d: usize, mut rows: usize) -> String {
     let ends = scheme.counts.iter().map(|&count| block.prefix_of_block(count as usize));
-    let mut groups: Vec<usize> = [0].into_iter().chain(ends).take_while(|&end| end <= block.prefix_of_block(d)).collect();
+    let mut groups: Vec<usize> =
+        [0].into_iter().chain(ends).take_while(|&end| end <= block.prefix_of_block(d)).collect();
     let mut words = Vec::new();
     while let (Some(end), Some(&start)) = (groups.pop(), groups.last()) {
         match rows.min(end - start) {

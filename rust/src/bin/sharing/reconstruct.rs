@@ -107,8 +107,7 @@ impl Opening {
     fn padded_message(&self) -> Result<(u64, Vec<u8>), u64> {
         let Scheme { n, r, z, ref counts, .. } = self.scheme;
         let mut message = vec![0; self.blocks() * self.block.bytes];
-        let (used, length) =
-            library::reconstruct_padded(n, r, z, counts, &self.parties, &self.joined(), &mut message)?;
+        let (used, length) = library::reconstruct_padded(n, r, z, counts, &self.parties, &self.joined(), &mut message)?;
         message.truncate(length as usize);
         Ok((used, message))
     }
@@ -190,7 +189,8 @@ impl Opening {
         let (told, caution) = match self.range {
             None => {
                 let bytes = counted(opened.bytes.len(), "byte");
-                let told = format!("The message, {bytes}, is in {out:?}; {used} bytes were fetched from {d} parties.\n");
+                let told =
+                    format!("The message, {bytes}, is in {out:?}; {used} bytes were fetched from {d} parties.\n");
                 (told, self.form.caution())
             }
             Some(range) => self.report_on_range(range, opened, out),
@@ -205,7 +205,8 @@ impl Opening {
         let is_in = range.is_in(out, if may_be_over { "the blocks" } else { "the message" });
         let rows = self.rows_used(range);
         let told = format!("{is_in}; {used} bytes were used of {sent} in the prefixes of {d} parties, {rows}.\n");
-        let end = format!("From byte {last_block} on the message may be over, and padding follow: not all rows were used.\n");
+        let end =
+            format!("From byte {last_block} on the message may be over, and padding follow: not all rows were used.\n");
         match (self.form, opened.end_known) {
             (Form::Padded, false) => (format!("{told}{}", if may_be_over { &end } else { "" }), NOT_CHECKED),
             _ => (told, self.form.caution()),
@@ -216,9 +217,14 @@ impl Opening {
     fn rows_used(&self, range: Range) -> String {
         let (d, block) = (self.parties.len(), &self.block);
         let rows = range.rows(&self.scheme, block, d).unwrap_or(0);
-        format!("{rows} of {} ({})", counted(block.prefix_of_block(d), "row"), rows_in_order(&self.scheme, block, d, rows))
+        format!(
+            "{rows} of {} ({})",
+            counted(block.prefix_of_block(d), "row"),
+            rows_in_order(&self.scheme, block, d, rows)
+        )
     }
 }
 
-const NOT_CHECKED: &str = "Nothing of it could be checked: a wrong scheme, party, prefix, form or number of readers, or a row \
+const NOT_CHECKED: &str =
+    "Nothing of it could be checked: a wrong scheme, party, prefix, form or number of readers, or a row \
                            that has not come, can go unnoticed.";
