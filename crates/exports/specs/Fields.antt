@@ -11,6 +11,9 @@ use Rattle.interpolation.specs.Interpolation.{side}
 use Rattle.staircase.specs.Parameters.{Parameters}
 use Rattle.dealer.specs.Split.{splitAnswer, splitOutput}
 use Rattle.dealer.specs.SplitPadded.{splitPaddedAnswer, splitPaddedOutput}
+use Rattle.key_pool.specs.declared.Form.{Form}
+use Rattle.key_pool.specs.declared.KeyPool.{KeyPool}
+use Rattle.key_pool.specs.Pool.{poolAnswer, poolOutput, poolAfter}
 use Rattle.reader.specs.Basis.{basisRefusal, basisOf}
 use Rattle.reader.specs.Range.{rangeAnswer, rangeOutput}
 use Rattle.reader.specs.Reconstruct.{reconstructAnswer, reconstructOutput}
@@ -78,6 +81,13 @@ abbrev pub ReconstructPaddedFields : Parameters → List ℕ → List ℕ → Li
 ReconstructPaddedFields p parties prefixes before a after =
     (paddedFields a ≡ openedFields (reconstructPaddedAnswer p parties prefixes (length before)))
     × (after ≡ reconstructPaddedOutput p parties prefixes before)
+
+-- a split from a key pool, in either form of message, with the pool's record after it
+abbrev pub PoolSplitFields : Form → Parameters → List ℕ → List ℕ → KeyPool → List ℕ → SharingAnswer → List ℕ → KeyPool → Type 0
+PoolSplitFields form p message bytes pool before a after next =
+    (answerFields a ≡ valueFields (poolAnswer form p (length message) (length bytes) pool (length before)))
+    × (after ≡ poolOutput form p message bytes pool before)
+    × (next ≡ poolAfter form p (length message) (length bytes) pool (length before))
 
 abbrev pub BasisFields : Parameters → List ℕ → SharingBasis → Type 0
 BasisFields p parties a = (a .refusal ≡ basisRefusal p parties) × (a .weights ≡ flattened (basisOf p parties))

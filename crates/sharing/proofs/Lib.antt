@@ -3,6 +3,8 @@ pub mod RoundTrip
 pub mod Opening
 pub mod Calls
 pub mod PaddedSecrecy
+mod Changes
+pub mod PoolSecrecy
 pub mod PaddedOpening
 pub mod PaddedCalls
 pub mod Range

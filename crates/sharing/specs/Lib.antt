@@ -3,6 +3,7 @@ pub mod RoundTrip
 pub mod Opening
 pub mod Calls
 pub mod PaddedSecrecy
+pub mod PoolSecrecy
 pub mod PaddedOpening
 pub mod PaddedRoundTrip
 pub mod PaddedCalls

@@ -1,11 +1,17 @@
 // Secret sharing by staircase polynomials over bytes: all of the library's calls under one name, with the demands
 // that they meet together as theorems and the worked examples of the rules. A message is split into shares (`dealer`),
-// a party hands out the prefix of its share (`party`), and the readers find their Lagrange basis and the message again
-// (`reader`), or only a range of it. The calls on a message that shows its own end, by its padding, have `padded` in their names.
+// under keys that are lent with it or the next ones of a pool (`key_pool`), a party hands out the prefix of its share
+// (`party`), and the readers find their Lagrange basis and the message again (`reader`), or only a range of it. The calls
+// on a message that shows its own end, by its padding, have `padded` in their names.
 pub use dealer::split;
 pub use dealer::split_default;
 pub use dealer::split_padded;
 pub use dealer::split_padded_default;
+pub use key_pool::KeyPool;
+pub use key_pool::split_from_pool;
+pub use key_pool::split_from_pool_default;
+pub use key_pool::split_padded_from_pool;
+pub use key_pool::split_padded_from_pool_default;
 pub use party::prefix;
 pub use party::prefix_default;
 pub use party::prefix_length;

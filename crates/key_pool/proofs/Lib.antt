@@ -1,0 +1,5 @@
+mod Room
+mod WaysOut
+pub mod PassedOn
+pub mod Runs
+pub mod Laws
