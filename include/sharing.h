@@ -30,8 +30,8 @@
  *
  * Every call returns, whatever numbers, bytes and lengths it is given; no pointer may be NULL, not even
  * beside the length 0. `refusal` is 0 when it was accepted; otherwise it is the first of these numbers
- * that applies (15 is looked at before 9, and 10 by archive_write alone last), every other field is 0 but
- * for `tried` beside refusal 4, and nothing was written:
+ * that applies (15 is looked at before 9, 16 before 10, and 10 by archive_write alone last), every other
+ * field is 0 but for `tried` beside refusal 4, and nothing was written:
  *
  *    1  n is below 2 or above 16
  *    2  z is 0, or r + z is n or more
@@ -55,11 +55,14 @@
  *   14  no entry of the archive has this number
  *   15  the range ends after the message: start + range_length is above message_length (the sum does not
  *       wrap around)
+ *   16  the pool's record says another length than pool_bytes_length, or its position is past it, or fewer
+ *       bytes are left, length - position, than the N x z x b that the split takes (no sum wraps around)
  *
  * What the caller owes, since nothing here can check it: a pointer is not NULL; as many bytes as its
  * length says stand behind it, or as many numbers behind `lengths`, and no other thread changes them
  * during the call; `out` does not overlap what the call reads. Keys are to be drawn evenly at random,
- * kept as secret as the message, and used for one message only: the library draws none.
+ * kept as secret as the message, and used for one message only: the library draws none. A pool of keys asks
+ * for more, which stands beside its record, sharing_key_pool.
  *
  * In Rattle there are four operations more on schemes: the prefix as a part of the lent share, in either
  * form of message, which in C is the share's own pointer with the length that sharing_prefix or
@@ -254,6 +257,59 @@ sharing_answer sharing_reconstruct_range(
 sharing_answer sharing_reconstruct_range_default(
     size_t message_length, size_t start, size_t range_length, const uint8_t *parties, size_t parties_length,
     const uint8_t *prefixes, size_t prefixes_length, uint8_t *out, size_t out_length);
+
+/*
+ * Pools of keys. A pool is bytes that are drawn once, for many splits: each split takes the next ones, and no
+ * byte is taken twice. The bytes stay with the caller, and beside them this record: how many there are, and
+ * how many of them were taken, from the first on. What the caller owes besides, since nothing here can check
+ * it:
+ *
+ * - The bytes are drawn evenly at random and kept as secret as the messages. The record starts as their
+ *   number and 0.
+ * - Every call is lent the same bytes, all of them, and the same record. The bytes serve for nothing else.
+ * - The calls alone write the record, and nobody sets it back. Where a pool is stored, the record is stored
+ *   before the shares of a split are handed out.
+ * - A pool is never copied to be used twice: both copies would take the same bytes.
+ * - No two threads use the record or the bytes at once.
+ * - The record, `out` and what the call reads do not overlap.
+ *
+ * Bytes that are taken twice after all are not noticed, and who has shares of both messages learns from them
+ * something of how these differ.
+ */
+typedef struct {
+    size_t length;
+    size_t position;
+} sharing_key_pool;
+
+/*
+ * Splits a padded message as sharing_split_padded does, with keys from a pool: the N x z x b bytes from
+ * pool_bytes[pool->position] on. When it is accepted, pool->position has moved by as many; when it is refused,
+ * the record is as it was. `value` is the length of one share. Refusals 1 to 5, 16 and 10 (`out` has n x N x b
+ * bytes), in this order.
+ */
+sharing_answer sharing_split_padded_from_pool(
+    sharing_key_pool *pool, uint8_t n, uint8_t r, uint8_t z, const uint8_t *counts, size_t counts_length,
+    const uint8_t *message, size_t message_length, const uint8_t *pool_bytes, size_t pool_bytes_length,
+    uint8_t *out, size_t out_length);
+
+/* The same with the default scheme. Refusals 5, 16 and 10. */
+sharing_answer sharing_split_padded_from_pool_default(
+    sharing_key_pool *pool, const uint8_t *message, size_t message_length,
+    const uint8_t *pool_bytes, size_t pool_bytes_length, uint8_t *out, size_t out_length);
+
+/*
+ * The same of a message in the earlier form, with that form's N: as sharing_split. An empty message takes no
+ * byte, and is accepted also where none is left. Refusals 1 to 5, 16 and 10.
+ */
+sharing_answer sharing_split_from_pool(
+    sharing_key_pool *pool, uint8_t n, uint8_t r, uint8_t z, const uint8_t *counts, size_t counts_length,
+    const uint8_t *message, size_t message_length, const uint8_t *pool_bytes, size_t pool_bytes_length,
+    uint8_t *out, size_t out_length);
+
+/* The same with the default scheme. Refusals 5, 16 and 10. */
+sharing_answer sharing_split_from_pool_default(
+    sharing_key_pool *pool, const uint8_t *message, size_t message_length,
+    const uint8_t *pool_bytes, size_t pool_bytes_length, uint8_t *out, size_t out_length);
 
 /*
  * Byte arithmetic of FIPS 197, section 4. Every byte is accepted. The sum, which is the difference too:

@@ -9,6 +9,12 @@ pub const WEIGHTS: usize = ROW_OF_WEIGHTS * ROW_OF_WEIGHTS;
 pub const ROW_OF_WEIGHTS: usize = MAX_PARTIES as usize;
 
 pub(crate) mod boundary;
+mod pool;
+
+pub use boundary::KeyPool;
+pub use pool::{
+    split_from_pool, split_from_pool_default, split_padded_from_pool, split_padded_from_pool_default, Pool,
+};
 
 /// What an accepted call answers, or the number of its refusal, which comes alone: with `none` for an answer.
 pub(crate) fn unless_refused<T: PartialEq + Debug>(refusal: u64, answer: T, none: T) -> Result<T, u64> {

@@ -43,12 +43,30 @@ pub struct ArchiveEntry {
     pub length: u64,
 }
 
+/// Of a pool of keys: how many bytes it has, and how many of them were taken, from the first on.
+#[repr(C)]
+#[derive(Debug, PartialEq, Eq)]
+pub struct KeyPool {
+    pub length: usize,
+    pub position: usize,
+}
+
 /// The splitter's call, with a scheme and by default: the same in both forms of message.
 #[rustfmt::skip]
 pub type Split = unsafe extern "C" fn(
     u8, u8, u8, *const u8, usize, *const u8, usize, *const u8, usize, *mut u8, usize,
 ) -> SharingAnswer;
 pub type SplitDefault = unsafe extern "C" fn(*const u8, usize, *const u8, usize, *mut u8, usize) -> SharingAnswer;
+
+/// The same with keys from a pool.
+#[rustfmt::skip]
+pub type SplitFromPool = unsafe extern "C" fn(
+    *mut KeyPool, u8, u8, u8, *const u8, usize, *const u8, usize, *const u8, usize, *mut u8, usize,
+) -> SharingAnswer;
+#[rustfmt::skip]
+pub type SplitFromPoolDefault = unsafe extern "C" fn(
+    *mut KeyPool, *const u8, usize, *const u8, usize, *mut u8, usize,
+) -> SharingAnswer;
 
 #[rustfmt::skip]
 extern "C" {
@@ -118,6 +136,24 @@ extern "C" {
         parties: *const u8, parties_length: usize, prefixes: *const u8, prefixes_length: usize,
         out: *mut u8, out_length: usize,
     ) -> SharingPaddedAnswer;
+    pub fn sharing_split_from_pool(
+        pool: *mut KeyPool, n: u8, r: u8, z: u8, counts: *const u8, counts_length: usize,
+        message: *const u8, message_length: usize, pool_bytes: *const u8, pool_bytes_length: usize,
+        out: *mut u8, out_length: usize,
+    ) -> SharingAnswer;
+    pub fn sharing_split_from_pool_default(
+        pool: *mut KeyPool, message: *const u8, message_length: usize,
+        pool_bytes: *const u8, pool_bytes_length: usize, out: *mut u8, out_length: usize,
+    ) -> SharingAnswer;
+    pub fn sharing_split_padded_from_pool(
+        pool: *mut KeyPool, n: u8, r: u8, z: u8, counts: *const u8, counts_length: usize,
+        message: *const u8, message_length: usize, pool_bytes: *const u8, pool_bytes_length: usize,
+        out: *mut u8, out_length: usize,
+    ) -> SharingAnswer;
+    pub fn sharing_split_padded_from_pool_default(
+        pool: *mut KeyPool, message: *const u8, message_length: usize,
+        pool_bytes: *const u8, pool_bytes_length: usize, out: *mut u8, out_length: usize,
+    ) -> SharingAnswer;
     pub fn archive_write(
         contents: *const u8, contents_length: usize, lengths: *const usize, lengths_length: usize,
         out: *mut u8, out_length: usize,
