@@ -1,7 +1,7 @@
 //! Calls of the proved library with a call's scheme, or with the default one, in its form of message.
 
 use crate::cases::{Call, Form};
-use crate::library::{self, Answer, PaddedAnswer};
+use crate::library::{self, Answer, KeyPool, PaddedAnswer};
 
 pub fn split(call: &Call, message: &[u8], keys: &[u8], out: &mut [u8]) -> Answer {
     let s = &call.scheme;
@@ -15,6 +15,27 @@ pub fn split_default(call: &Call, message: &[u8], keys: &[u8], out: &mut [u8]) -
     match call.form {
         Form::Earlier => library::split_default(message, keys, out),
         Form::Padded => library::split_padded_default(message, keys, out),
+    }
+}
+
+pub fn split_from_pool(call: &Call, pool: &mut KeyPool, message: &[u8], bytes: &[u8], out: &mut [u8]) -> Answer {
+    let s = &call.scheme;
+    match call.form {
+        Form::Earlier => library::split_from_pool(pool, s.n, s.r, s.z, &s.counts, message, bytes, out),
+        Form::Padded => library::split_padded_from_pool(pool, s.n, s.r, s.z, &s.counts, message, bytes, out),
+    }
+}
+
+pub fn split_from_pool_default(
+    call: &Call,
+    pool: &mut KeyPool,
+    message: &[u8],
+    bytes: &[u8],
+    out: &mut [u8],
+) -> Answer {
+    match call.form {
+        Form::Earlier => library::split_from_pool_default(pool, message, bytes, out),
+        Form::Padded => library::split_padded_from_pool_default(pool, message, bytes, out),
     }
 }
 

@@ -193,6 +193,10 @@ pub struct Call {
     pub d: usize,
     pub parties: Vec<u8>,
     pub keys: usize,
+    /// The pool that the splitter may take the keys from: how many bytes are lent, and what the record says.
+    pub pool: usize,
+    pub pool_length: usize,
+    pub pool_position: usize,
     /// The splitter's output: all shares.
     pub shares: usize,
     /// What a party lends.
@@ -212,7 +216,8 @@ pub struct Call {
 }
 
 impl Call {
-    /// An accepted call: a message of this form and length, read by these parties. The range is all of it.
+    /// An accepted call: a message of this form and length, read by these parties. The range is all of it, and the pool
+    /// has the keys and nothing else.
     pub fn new(form: Form, scheme: &Scheme, length: usize, parties: Vec<u8>) -> Call {
         let (z, d) = (scheme.z as usize, parties.len());
         let blocks = form.blocks(length, scheme.m);
@@ -224,6 +229,9 @@ impl Call {
             d,
             parties,
             keys: share * z,
+            pool: share * z,
+            pool_length: share * z,
+            pool_position: 0,
             shares: share * scheme.n as usize,
             share,
             prefixes: d * (scheme.m / (d - z)) * blocks,
@@ -250,6 +258,14 @@ impl Call {
     pub fn with_drawn_range(&self, random: &mut Random) -> Call {
         let start = random.below(self.length + 1);
         self.with_range(start, random.below(self.length - start + 1))
+    }
+
+    /// The same with a pool of which bytes may have been taken, and more may be left than this call takes.
+    pub fn with_drawn_pool(&self, random: &mut Random) -> Call {
+        let mut some = || random.below(3) * random.below(50);
+        let (position, more) = (some(), some());
+        let pool = position + self.keys + more;
+        Call { pool, pool_length: pool, pool_position: position, ..self.clone() }
     }
 
     /// What the parties of an accepted call send of the shares, which stand one after another.

@@ -7,6 +7,7 @@ use crate::{calls, library, reference};
 use std::fmt::Debug;
 
 pub mod archive;
+pub mod pool;
 pub mod range;
 
 /// On what the two agree: that the call is accepted, or its refusal.
@@ -45,7 +46,7 @@ fn written<Value: Copy + Debug + PartialEq>(
     random: &mut Random,
     length: usize,
     expected: &Result<(Value, Vec<u8>), u64>,
-    run: impl Fn(&mut [u8]) -> Result<Value, u64>,
+    run: impl FnOnce(&mut [u8]) -> Result<Value, u64>,
 ) {
     let (start, end) = (8 + random.below(16), 8 + random.below(16));
     let mut after = random.bytes(start + length + end);

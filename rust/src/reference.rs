@@ -7,6 +7,7 @@
 use std::sync::OnceLock;
 
 pub mod archive;
+pub mod pool;
 pub mod range;
 
 /// The limits of the rules' document, apart from those that the library's users are told.
@@ -155,6 +156,11 @@ fn whole_blocks(mut string: Vec<u8>, m: usize) -> Vec<u8> {
     string
 }
 
+/// The padding of the earlier form: zeros alone.
+fn filled(message: &[u8], m: usize) -> Vec<u8> {
+    whole_blocks(message.to_vec(), m)
+}
+
 /// The padding of messages that know their own end: one byte 128 after the message, then zeros.
 fn padded(message: &[u8], m: usize) -> Vec<u8> {
     whole_blocks([message, &[128]].concat(), m)
@@ -178,25 +184,32 @@ pub fn shares_of_blocks(n: u8, z: u8, counts: &[u8], m: usize, string: &[u8], ke
     shares
 }
 
-/// What the two splitters have in common: they differ in how the blocks are made of the message.
-fn split_as(
+/// What the splitters have in common: they differ in how the blocks are made of the message, and in where the keys come
+/// from, which are asked for by their number.
+fn split_as<'a>(
     whole: impl Fn(&[u8], usize) -> Vec<u8>,
     (n, r, z, counts): (u8, u8, u8, &[u8]),
     message: &[u8],
-    keys: &[u8],
+    keys: impl FnOnce(usize) -> Result<&'a [u8], u64>,
     out: usize,
 ) -> Result<Vec<u8>, u64> {
     let (m, b) = sizes(n, r, z, counts)?;
     first_refusal(&[(message.len() > LONGEST_MESSAGE, 5)])?;
     let string = whole(message, m);
     let share = string.len() / m * b;
-    first_refusal(&[(keys.len() != share * z as usize, 8), (out != share * n as usize, 10)])?;
+    let keys = keys(share * z as usize)?;
+    first_refusal(&[(out != share * n as usize, 10)])?;
     Ok(shares_of_blocks(n, z, counts, m, &string, keys))
+}
+
+/// Keys that are lent have to be as many as are asked for.
+fn lent<'a>(keys: &'a [u8]) -> impl FnOnce(usize) -> Result<&'a [u8], u64> {
+    move |number| Some(keys).filter(|keys| keys.len() == number).ok_or(8)
 }
 
 /// The shares of all parties, one after another.
 pub fn split(n: u8, r: u8, z: u8, counts: &[u8], message: &[u8], keys: &[u8], out: usize) -> Result<Vec<u8>, u64> {
-    split_as(|message, m| whole_blocks(message.to_vec(), m), (n, r, z, counts), message, keys, out)
+    split_as(filled, (n, r, z, counts), message, lent(keys), out)
 }
 
 /// The same of a padded message.
@@ -209,7 +222,7 @@ pub fn split_padded(
     keys: &[u8],
     out: usize,
 ) -> Result<Vec<u8>, u64> {
-    split_as(padded, (n, r, z, counts), message, keys, out)
+    split_as(padded, (n, r, z, counts), message, lent(keys), out)
 }
 
 /// The length of a prefix.

@@ -2,7 +2,7 @@
 //! of the rules' table is the answer, and nothing is written.
 
 use gilunavoi::cases::{choices, Call, Form, Scheme, BAD_COUNTS, FORMS};
-use gilunavoi::compare::{self, range, Compare};
+use gilunavoi::compare::{self, pool, range, Compare};
 use gilunavoi::limits::{MAX_MESSAGE, MAX_PARTIES};
 use gilunavoi::random::Random;
 
@@ -108,6 +108,25 @@ const KEYS: [Fault; 4] = [
     (8, |c| c.keys = if c.keys == 0 { 1 } else { 0 }),
 ];
 
+/// Pools of another length than their records say, and records after which too few bytes are left, or that are past the end.
+/// Some would pass modulo 2^32, or if sums were taken modulo 2^64.
+const POOLS: [Fault; 14] = [
+    (16, |c| c.pool += 1),
+    (16, |c| c.pool = one_less(c.pool)),
+    (16, |c| c.pool_length += 1),
+    (16, |c| c.pool_length = one_less(c.pool_length)),
+    (16, |c| c.pool_length = if c.pool_length == 0 { 1 } else { 0 }),
+    (16, |c| c.pool_length += 1 << 32),
+    (16, |c| c.pool_length = usize::MAX),
+    (16, |c| c.pool_position = c.pool - c.keys + 1),
+    (16, |c| c.pool_position = c.pool + 1),
+    (16, |c| c.pool_position += 1 << 32),
+    (16, |c| c.pool_position += 1 << 63),
+    (16, |c| c.pool_position = (usize::MAX - c.keys).saturating_add(1)),
+    (16, |c| c.pool_position = usize::MAX),
+    (16, |c| (c.pool_length, c.pool_position) = (usize::MAX, usize::MAX - c.keys)),
+];
+
 const SHARE: [Fault; 4] = [
     (9, |c| c.share += 1),
     (9, |c| c.share = one_less(c.share)),
@@ -164,7 +183,7 @@ enum Change {
 }
 
 /// The order in which the rules look for refusals.
-const ORDER: [u64; 12] = [1, 2, 3, 4, 5, 6, 7, 8, 15, 9, 10, 11];
+const ORDER: [u64; 13] = [1, 2, 3, 4, 5, 6, 7, 8, 16, 15, 9, 10, 11];
 
 /// Refusals 1 to 4, and then those of the call, in their order.
 fn faults(of_the_call: &[&[Fault]]) -> Vec<(u64, Change)> {
@@ -178,7 +197,7 @@ fn faults(of_the_call: &[&[Fault]]) -> Vec<(u64, Change)> {
     faults
 }
 
-/// Accepted calls: the default scheme with messages of some lengths, and drawn schemes. The range is drawn, too.
+/// Accepted calls: the default scheme with messages of some lengths, and drawn schemes. Range and pool are drawn, too.
 fn accepted_calls(random: &mut Random, form: Form) -> Vec<Call> {
     let mut calls: Vec<Call> = [0, 1, 100].map(|length| Call::drawn(random, form, &Scheme::default(), length)).into();
     for _ in 0..5 {
@@ -186,7 +205,7 @@ fn accepted_calls(random: &mut Random, form: Form) -> Vec<Call> {
         let length = random.below(2 * scheme.m + 1);
         calls.push(Call::drawn(random, form, &scheme, length));
     }
-    calls.iter().map(|call| call.with_drawn_range(random)).collect()
+    calls.iter().map(|call| call.with_drawn_range(random).with_drawn_pool(random)).collect()
 }
 
 /// Puts every choice of faults into accepted calls.
@@ -228,6 +247,16 @@ fn of_the_splitter() {
 #[test]
 fn of_the_padded_splitter() {
     refused(32, Form::Padded, compare::split, &[&MESSAGES, &KEYS, &OUTPUTS]);
+}
+
+#[test]
+fn of_the_splitter_from_a_pool() {
+    refused(57, Form::Earlier, pool::split, &[&MESSAGES, &POOLS, &OUTPUTS]);
+}
+
+#[test]
+fn of_the_padded_splitter_from_a_pool() {
+    refused(58, Form::Padded, pool::split, &[&MESSAGES, &POOLS, &OUTPUTS]);
 }
 
 #[test]
@@ -278,7 +307,7 @@ fn nearby_byte(random: &mut Random, byte: u8) -> u8 {
 fn damage(call: &mut Call, random: &mut Random) {
     let scheme = &mut call.scheme;
     let parties = &mut call.parties;
-    match random.below(17) {
+    match random.below(20) {
         0 => scheme.n = nearby_byte(random, scheme.n),
         1 => scheme.r = nearby_byte(random, scheme.r),
         2 => scheme.z = nearby_byte(random, scheme.z),
@@ -295,6 +324,9 @@ fn damage(call: &mut Call, random: &mut Random) {
         13 => call.end = call.end.map(|(place, byte)| (nearby(random, place), nearby_byte(random, byte))),
         14 => call.start = nearby(random, call.start),
         15 => call.range_length = nearby(random, call.range_length),
+        16 => call.pool = nearby(random, call.pool),
+        17 => call.pool_length = nearby(random, call.pool_length),
+        18 => call.pool_position = nearby(random, call.pool_position),
         _ => {
             for output in [&mut call.shares, &mut call.message, &mut call.range] {
                 *output = nearby(random, *output);
@@ -306,16 +338,17 @@ fn damage(call: &mut Call, random: &mut Random) {
 #[test]
 fn drawn_damage() {
     let mut random = Random::new(21);
-    let operations: [Compare; 5] =
-        [compare::split, compare::prefix, compare::basis, compare::reconstruct, range::reconstruct];
+    let operations: [Compare; 6] =
+        [compare::split, pool::split, compare::prefix, compare::basis, compare::reconstruct, range::reconstruct];
     for form in FORMS {
         // There is no call for a range in the padded form.
-        let operations = &operations[..if form == Form::Padded { 4 } else { 5 }];
-        let mut outcomes = vec![[0; 16]; operations.len()];
+        let operations = &operations[..if form == Form::Padded { 5 } else { 6 }];
+        let mut outcomes = vec![[0; 17]; operations.len()];
         for case in 0..30_000 {
             let scheme = if case % 4 == 0 { Scheme::default() } else { Scheme::drawn(&mut random, 24) };
             let length = random.below(3 * scheme.m + 1);
             let mut call = Call::drawn(&mut random, form, &scheme, length).with_drawn_range(&mut random);
+            call = call.with_drawn_pool(&mut random);
             for _ in 0..1 + random.below(3) {
                 damage(&mut call, &mut random);
             }
