@@ -30,7 +30,7 @@ static const uint8_t four[] = {1, 2, 4, 5};
 static void sizes(void) {
     EXPECT(sizeof(sharing_scheme) == 24 && sizeof(sharing_answer) == 16 && sizeof(sharing_basis_answer) == 264);
     EXPECT(sizeof(sharing_padded_answer) == 24 && sizeof(archive_entry_answer) == 24 && sizeof(sharing_tried_scheme) == 32);
-    EXPECT(sizeof ((sharing_basis_answer *)0)->weights == 256);
+    EXPECT(sizeof ((sharing_basis_answer *)0)->weights == 256 && sizeof(sharing_key_pool) == 16);
 }
 
 static void arithmetic(void) {
@@ -138,6 +138,51 @@ static void padded_openings(void) {
     EXPECT(a.refusal == 11 && a.used == 0 && a.length == 0 && opened[0] == 7 && opened[5] == 7);
 }
 
+/* The first byte was taken before. Each split takes six: first the keys of the known shares, then others. */
+static const uint8_t pool_bytes[] = {77, 9, 4, 2, 6, 200, 33, 8, 1, 5, 90, 3, 7};
+
+static void pools(void) {
+    sharing_key_pool pool = {13, 1};
+    uint8_t out[15], plain[15] = {0};
+    sharing_answer a = sharing_split_from_pool(&pool, 5, 1, 2, counts, 2, message, 5, pool_bytes, 13, out, 15);
+    EXPECT(a.refusal == 0 && a.value == 3 && memcmp(out, shares, 15) == 0);
+    EXPECT(pool.length == 13 && pool.position == 7);
+    a = sharing_split_padded_from_pool(&pool, 5, 1, 2, counts, 2, message, 5, pool_bytes, 13, out, 15);
+    EXPECT(a.refusal == 0 && a.value == 3 && pool.length == 13 && pool.position == 13);
+    sharing_split_padded(5, 1, 2, counts, 2, message, 5, pool_bytes + 7, 6, plain, 15);
+    EXPECT(memcmp(out, plain, 15) == 0);
+    a = sharing_split_from_pool(&pool, 5, 1, 2, counts, 2, message, 0, pool_bytes, 13, out, 0);
+    EXPECT(a.refusal == 0 && a.value == 0 && pool.length == 13 && pool.position == 13);
+    pool.position = 1;
+    a = sharing_split_padded_from_pool(&pool, 5, 1, 2, counts, 2, message, 5, pool_bytes, 13, out, 15);
+    EXPECT(a.refusal == 0 && a.value == 3 && memcmp(out, padded_shares, 15) == 0 && pool.position == 7);
+}
+
+/* Alone, and together with what is looked at later. Two positions would pass if a sum wrapped around. */
+static void refused_pools(void) {
+    static const uint8_t too_long[16385];
+    const struct { size_t length, position, n, message, out, refusal; } refused[] = {
+        {13, 7, 5, 5, 14, 10}, {13, 8, 5, 5, 15, 16}, {13, 14, 5, 0, 0, 16}, {12, 1, 5, 5, 15, 16}, {14, 1, 5, 5, 14, 16},
+        {13, SIZE_MAX, 5, 5, 15, 16}, {13, SIZE_MAX - 5, 5, 5, 15, 16}, {SIZE_MAX, SIZE_MAX, 5, 0, 0, 16},
+        {14, 14, 5, 16385, 15, 5}, {14, 14, 1, 16385, 15, 1},
+    };
+    uint8_t out[15], before[15];
+    memset(before, 7, 15);
+    memcpy(out, before, 15);
+    for (size_t i = 0; i < sizeof refused / sizeof *refused; i++) {
+        size_t length = refused[i].length, position = refused[i].position;
+        sharing_key_pool pool = {length, position};
+        sharing_answer a = sharing_split_from_pool(
+            &pool, refused[i].n, 1, 2, counts, 2, too_long, refused[i].message, pool_bytes, 13, out, refused[i].out);
+        EXPECT(a.refusal == refused[i].refusal && a.value == 0 && memcmp(out, before, 15) == 0);
+        EXPECT(pool.length == length && pool.position == position);
+        a = sharing_split_padded_from_pool(
+            &pool, refused[i].n, 1, 2, counts, 2, too_long, refused[i].message, pool_bytes, 13, out, refused[i].out);
+        EXPECT(a.refusal == refused[i].refusal && a.value == 0 && memcmp(out, before, 15) == 0);
+        EXPECT(pool.length == length && pool.position == position);
+    }
+}
+
 /* Of two refusals that apply the first is answered, alone, and the output stays as it was. */
 static void two_refusals(void) {
     const uint8_t falling[] = {5, 4, 2, 1};
@@ -211,6 +256,27 @@ static void padded_by_default(void) {
     memcpy(prefixes + 36, out + 54, 18);
     sharing_padded_answer p = sharing_reconstruct_padded_default(three, 3, prefixes, 54, opened, 18);
     EXPECT(p.refusal == 0 && p.used == 54 && p.length == 12 && memcmp(opened, text, 12) == 0 && opened[12] == 128);
+}
+
+/* Two blocks take 24 bytes of the pool, the three of the padded message the next 36, and then none is left. */
+static void pools_by_default(void) {
+    const uint8_t text[] = "A few words", bytes[60] = {1, 2, 3, [23] = 4, 5, 6, [59] = 7};
+    sharing_key_pool pool = {60, 0};
+    uint8_t out[90], plain[90] = {0};
+    sharing_answer a = sharing_split_from_pool_default(&pool, text, 12, bytes, 60, out, 60);
+    EXPECT(a.refusal == 0 && a.value == 12 && pool.length == 60 && pool.position == 24);
+    sharing_split_default(text, 12, bytes, 24, plain, 60);
+    EXPECT(memcmp(out, plain, 60) == 0);
+    a = sharing_split_padded_from_pool_default(&pool, text, 12, bytes, 60, out, 89);
+    EXPECT(a.refusal == 10 && a.value == 0 && pool.position == 24 && memcmp(out, plain, 60) == 0);
+    a = sharing_split_padded_from_pool_default(&pool, text, 12, bytes, 60, out, 90);
+    EXPECT(a.refusal == 0 && a.value == 18 && pool.length == 60 && pool.position == 60);
+    sharing_split_padded_default(text, 12, bytes + 24, 36, plain, 90);
+    EXPECT(memcmp(out, plain, 90) == 0);
+    a = sharing_split_from_pool_default(&pool, text, 12, bytes, 60, out, 60);
+    EXPECT(a.refusal == 16 && a.value == 0 && pool.position == 60 && memcmp(out, plain, 90) == 0);
+    a = sharing_split_padded_from_pool_default(&pool, text, 12, bytes, 59, out, 90);
+    EXPECT(a.refusal == 16 && a.value == 0 && pool.position == 60 && memcmp(out, plain, 90) == 0);
 }
 
 /*
@@ -298,9 +364,12 @@ int main(void) {
     openings();
     ranges();
     padded_openings();
+    pools();
+    refused_pools();
     two_refusals();
     default_scheme();
     padded_by_default();
+    pools_by_default();
     stored_shares();
     stored_padded_shares();
     archives();
