@@ -19,6 +19,8 @@
 
 use gilunavoi::cases::archive::WriteCall;
 use gilunavoi::cases::{length, parties, Call, Form, Scheme, FORMS};
+use gilunavoi::compare::pool::Split;
+use gilunavoi::library::KeyPool;
 use gilunavoi::random::Random;
 use gilunavoi::{archive, calls, library};
 use std::arch::asm;
@@ -67,6 +69,20 @@ fn reconstruct_range(call: &Call, prefixes: &[u8], random: &mut Random) -> (usiz
     (call.start, range)
 }
 
+/// Splits a message once more, with the same keys from a pool of secret bytes. Its record is for all to see.
+fn split_from_pool(call: &Call, message: &[u8], keys: &[u8], random: &mut Random) -> Vec<u8> {
+    let call = call.with_drawn_pool(random);
+    let by_default = call.scheme.is_default() && random.below(2) == 0;
+    let split: Split = if by_default { calls::split_from_pool_default } else { calls::split_from_pool };
+    let (mut bytes, mut shares) = (random.bytes(call.pool), vec![0; call.shares]);
+    bytes[call.pool_position..][..call.keys].copy_from_slice(keys);
+    request(MAKE_UNDEFINED, &bytes);
+    let mut record = KeyPool { length: call.pool_length, position: call.pool_position };
+    assert_eq!(split(&call, &mut record, message, &bytes, &mut shares), Ok(call.share as u64));
+    assert_eq!(record, KeyPool { length: call.pool, position: call.pool_position + call.keys });
+    shares
+}
+
 /// Splits a secret message under secret keys, which makes the shares secret, and opens it again, and a range of it. The
 /// complaints that the opener brought.
 fn split_and_reconstruct(call: &Call, secret: Secret, random: &mut Random) -> u64 {
@@ -76,6 +92,7 @@ fn split_and_reconstruct(call: &Call, secret: Secret, random: &mut Random) -> u6
         request(MAKE_UNDEFINED, secret);
     }
     assert_eq!(calls::split(call, &message, &keys, &mut shares), Ok(call.share as u64));
+    let from_pool = split_from_pool(call, &message, &keys, random);
     assert_eq!(calls::prefix(call, &shares[..call.share]), Ok((call.prefixes / call.d) as u64));
     let prefixes = call.sent(&shares);
     if call.form == Form::Padded && secret == Secret::AllButTheLastBlock {
@@ -89,9 +106,10 @@ fn split_and_reconstruct(call: &Call, secret: Secret, random: &mut Random) -> u6
     let answer = answer.map(|(used, length)| (used, shown(length)));
     assert_eq!(answer, Ok((call.prefixes as u64, call.length as u64)));
     let (start, range) = reconstruct_range(call, &prefixes, random);
-    for secret in [&message, &keys, &shares, &prefixes, &opened, &range] {
+    for secret in [&message, &keys, &shares, &from_pool, &prefixes, &opened, &range] {
         request(MAKE_DEFINED, secret);
     }
+    assert!(shares == from_pool);
     assert!(opened[..call.length] == message);
     assert!(message[start..].starts_with(&range));
     complaints
@@ -148,7 +166,7 @@ fn main() {
             split_and_reconstruct(call, Secret::AllButTheLastBlock, random);
         });
     }
-    println!("200 messages in both forms, split and opened for every count, in the earlier form also a range of each");
+    println!("200 messages in both forms, split, from a pool too, and opened for every count, in the earlier form also a range");
     (0..100).for_each(|count| write_and_look_up(count, &mut random));
     println!("archives of up to 99 shares, written and taken apart");
     if argument == "control" {

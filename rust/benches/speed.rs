@@ -1,6 +1,7 @@
 //! What splitting and reconstructing cost: the proved library in both forms of message, an obvious program with tables, and
-//! libgfshare where it is installed; and what archives cost, beside copying. All take turns in one process. What a range of a
-//! message costs and what the check of a scheme costs come last, and alone with the arguments `range` and `check`:
+//! libgfshare where it is installed; and what archives cost, beside copying. All take turns in one process. What keys from a
+//! pool cost, a range of a message and the check of a scheme come last, and alone with the arguments `pool`, `range` and
+//! `check`:
 //!
 //!     cargo bench --offline --manifest-path rust/Cargo.toml --bench speed -- range
 
@@ -25,6 +26,8 @@ mod gfshare;
 mod growth;
 #[path = "speed/measure.rs"]
 mod measure;
+#[path = "speed/pool.rs"]
+mod pool;
 #[path = "speed/range.rs"]
 mod range;
 #[path = "speed/tables.rs"]
@@ -173,7 +176,7 @@ faster than libgfshare
 type Table = fn(&mut Random) -> String;
 
 /// The tables that an argument asks for alone.
-const LAST_TABLES: [(&str, Table); 2] = [("range", range::table), ("check", check::table)];
+const LAST_TABLES: [(&str, Table); 3] = [("pool", pool::table), ("range", range::table), ("check", check::table)];
 
 fn main() {
     let mut random = Random::new(1);
