@@ -1,4 +1,5 @@
-//! The commands. Those on archives stand in `archive`, and the one that opens messages in `reconstruct`.
+//! The commands. Those on archives stand in `archive`, those on pools of keys in `pool_commands`, and those that split and
+//! open messages in `split` and `reconstruct`.
 
 use crate::arguments::{paths, usage, Arguments};
 use crate::failure::{Done, Failure};
@@ -7,7 +8,7 @@ use crate::form::Form;
 use crate::range::{rows_in_order, Range};
 use crate::report::{counted, say};
 use crate::scheme::Scheme;
-use crate::{archive, help, reconstruct};
+use crate::{archive, help, pool_commands, reconstruct, split};
 use gilunavoi::library;
 use std::ffi::OsString;
 
@@ -19,9 +20,10 @@ struct Command {
     run: fn(&Arguments) -> Done,
 }
 
-const COMMANDS: [Command; 5] = [
+const COMMANDS: [Command; 6] = [
     Command { name: "scheme", help: help::scheme, options: &["--range", "--first"], run: scheme },
-    Command { name: "split", help: help::split, options: &["--scheme", "--unpadded"], run: split },
+    Command { name: "pool", help: help::pool, options: &[], run: pool_commands::run },
+    Command { name: "split", help: help::split, options: &["--scheme", "--unpadded", "--pool"], run: split::run },
     Command { name: "prefix", help: help::prefix, options: &["--scheme", "--length", "--readers"], run: prefix },
     Command {
         name: "reconstruct",
@@ -34,7 +36,7 @@ const COMMANDS: [Command; 5] = [
 
 pub fn run(words: Vec<OsString>) -> Done {
     let Some((first, rest)) = words.split_first() else {
-        return usage("a command is missing: scheme, split, prefix, reconstruct or archive".to_string());
+        return usage("a command is missing: scheme, pool, split, prefix, reconstruct or archive".to_string());
     };
     let asks_for_help = |word: &OsString| word == "--help" || word == "-h";
     if asks_for_help(first) {
@@ -75,38 +77,6 @@ fn scheme(arguments: &Arguments) -> Done {
         text += "\n";
     }
     say(&text)
-}
-
-fn split(arguments: &Arguments) -> Done {
-    let [message, keys, folder] = paths(&arguments.words, ["MESSAGE", "KEYS", "FOLDER"])?;
-    let unpadded = arguments.flag("--unpadded");
-    let scheme = Scheme::of(arguments)?;
-    let block = scheme.check()?;
-    let (message, keys) = (read(message)?, read(keys)?);
-    let length = message.bytes.len();
-    let blocks = if unpadded { block.blocks(length) } else { block.padded_blocks(length) };
-    let share = blocks * block.rows;
-    let mut shares = vec![0; scheme.n as usize * share];
-    let Scheme { n, r, z, ref counts, .. } = scheme;
-    let split = if unpadded { library::split } else { library::split_padded };
-    split(n, r, z, counts, &message.bytes, &keys.bytes, &mut shares).map_err(|number| match number {
-        8 => {
-            let (needed, used) = (counted(block.keys(blocks), "byte"), scheme.used());
-            Failure::Refused(8, format!("it needs {needed}, and {keys}\nthe scheme is {used}"))
-        }
-        _ => Failure::Refused(number, message.to_string()),
-    })?;
-    let name = |party: u8| OsString::from(format!("share-{party}"));
-    let part = |party: u8| &shares[(party as usize - 1) * share..party as usize * share];
-    let files: Vec<(OsString, &[u8])> = (1..=n).map(|party| (name(party), part(party))).collect();
-    let output = Output::in_folder(&folder, &files)?;
-    let (bytes, used) = (counted(share, "byte"), scheme.used());
-    let mut told = format!("{n} shares of {bytes} are in {folder:?}, share-1 to share-{n}.\nThe scheme is {used}.\n");
-    if unpadded {
-        told += &format!("Keep the message's length, {length}: it is needed to open the message, ");
-        told += "and the shares do not hold it.\n";
-    }
-    output.keep(&told)
 }
 
 fn prefix(arguments: &Arguments) -> Done {

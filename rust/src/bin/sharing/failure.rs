@@ -17,6 +17,8 @@ pub enum Failure {
     File(String),
     /// The signal of this number came while files were being written.
     Interrupted(i32),
+    /// One of these, and what is true all the same.
+    Besides(Box<Failure>, String),
 }
 
 /// The numbers and reasons of all refusals.
@@ -43,6 +45,7 @@ pub fn refusals() -> impl Iterator<Item = (u64, String)> {
         ),
         "the archive has no entry of this number".to_string(),
         "the range ends past the end of the message".to_string(),
+        "the record of the pool does not fit its keys, or the pool has fewer bytes left than this message needs".to_string(),
     ];
     (1..).zip(reasons)
 }
@@ -59,6 +62,7 @@ impl fmt::Display for Failure {
             Failure::Refused(number, detail) => write!(f, "refused ({number}): {}\n{detail}", reason(*number)),
             Failure::File(text) => write!(f, "{text}"),
             Failure::Interrupted(_) => write!(f, "interrupted, and nothing is kept of what was written"),
+            Failure::Besides(failure, fact) => write!(f, "{failure}\n{fact}"),
         }
     }
 }
@@ -68,12 +72,16 @@ impl Failure {
     pub fn tell(&self) -> ExitCode {
         // Where standard error cannot be written either, the exit status still tells.
         note(&self.to_string());
-        if let Failure::Interrupted(number) = self {
-            interrupt::end(*number);
-        }
+        self.end()
+    }
+
+    fn end(&self) -> ExitCode {
         match self {
-            Failure::Usage(_) => ExitCode::from(2),
-            _ => ExitCode::from(1),
+            Failure::Usage(_) => return ExitCode::from(2),
+            Failure::Interrupted(number) => interrupt::end(*number),
+            Failure::Besides(failure, _) => return failure.end(),
+            Failure::Refused(..) | Failure::File(_) => {}
         }
+        ExitCode::from(1)
     }
 }

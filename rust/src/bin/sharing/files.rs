@@ -16,35 +16,59 @@ use std::path::{Path, PathBuf};
 /// after it, so that an endless file ends in a refusal too.
 const LONGEST: usize = 1 << 20;
 
-/// A file that was read, cut after `LONGEST` and one.
+/// A file that was read, cut one byte after the longest that is wanted.
 pub struct Input {
-    path: PathBuf,
+    pub path: PathBuf,
     pub bytes: Vec<u8>,
+    longest: usize,
 }
 
 pub fn read(path: PathBuf) -> Result<Input, Failure> {
+    read_up_to(LONGEST, path)
+}
+
+pub fn read_up_to(longest: usize, path: PathBuf) -> Result<Input, Failure> {
+    let file = File::open(&path).map_err(|error| failed("read", &path, &error))?;
+    read_opened(longest, &file, path)
+}
+
+/// Reads a file that is opened already, under this path.
+pub fn read_opened(longest: usize, file: &File, path: PathBuf) -> Result<Input, Failure> {
     let mut bytes = Vec::new();
-    let read = File::open(&path).and_then(|file| file.take(LONGEST as u64 + 1).read_to_end(&mut bytes));
-    match read {
-        Ok(_) => Ok(Input { path, bytes }),
+    match file.take(longest as u64 + 1).read_to_end(&mut bytes) {
+        Ok(_) => Ok(Input { path, bytes, longest }),
         Err(error) => Err(failed("read", &path, &error)),
+    }
+}
+
+impl Input {
+    pub fn is_too_long(&self) -> bool {
+        self.bytes.len() > self.longest
     }
 }
 
 /// How long it is.
 impl fmt::Display for Input {
     fn fmt(&self, f: &mut fmt::Formatter) -> fmt::Result {
-        let (path, length) = (&self.path, self.bytes.len());
-        if length > LONGEST {
-            write!(f, "{path:?} has more than {}", counted(LONGEST, "byte"))
+        let path = &self.path;
+        if self.is_too_long() {
+            write!(f, "{path:?} has more than {}", counted(self.longest, "byte"))
         } else {
-            write!(f, "{path:?} has {}", counted(length, "byte"))
+            write!(f, "{path:?} has {}", counted(self.bytes.len(), "byte"))
         }
     }
 }
 
-fn failed(action: &str, path: &Path, error: &io::Error) -> Failure {
+pub fn failed(action: &str, path: &Path, error: &io::Error) -> Failure {
     Failure::File(format!("cannot {action} {path:?}: {error}"))
+}
+
+/// What was renamed or made in a folder is safe from a power cut only when this is done.
+pub fn sync_folder(folder: &Path) -> Done {
+    // The folder of a name without one.
+    let folder = if folder.as_os_str().is_empty() { Path::new(".") } else { folder };
+    let synced = File::open(folder).and_then(|opened| opened.sync_all());
+    synced.map_err(|error| failed("write", folder, &error))
 }
 
 /// Where one file is to be written: a folder that exists, and a name in it.
@@ -66,52 +90,73 @@ impl Place {
 }
 
 /// Files in one folder. What was made is removed again unless `keep` succeeds. Only the owner may
-/// read them: they are shares, or a message.
+/// read them: they are shares, keys, or a message.
 pub struct Output {
     folder: PathBuf,
     new_folder: bool,
+    names: Vec<OsString>,
     made: Vec<PathBuf>,
 }
 
 impl Output {
-    fn new(folder: PathBuf) -> Output {
+    fn new(folder: &Path, names: Vec<OsString>) -> Output {
         interrupt::hold();
-        Output { folder, new_folder: false, made: Vec::new() }
+        Output { folder: folder.to_path_buf(), new_folder: false, names, made: Vec::new() }
     }
 
-    /// Writes files into a folder, which is made where it does not exist.
-    pub fn in_folder(folder: &Path, files: &[(OsString, &[u8])]) -> Result<Output, Failure> {
-        let mut output = Output::new(folder.to_path_buf());
-        output.new_folder = match DirBuilder::new().mode(0o700).create(folder) {
+    /// For files of these names in a folder, which is made where it does not exist.
+    pub fn in_folder(folder: &Path, names: Vec<OsString>) -> Result<Output, Failure> {
+        let mut output = Output::new(folder, names);
+        output.new_folder = match make(folder) {
             Ok(()) => true,
             Err(error) if error.kind() == ErrorKind::AlreadyExists && folder.is_dir() => false,
             Err(error) => return Err(failed("make the folder", folder, &error)),
         };
-        output.write(files)?;
+        output.checked()
+    }
+
+    /// The same in a folder that must not exist.
+    pub fn in_new_folder(folder: &Path, names: Vec<OsString>) -> Result<Output, Failure> {
+        let mut output = Output::new(folder, names);
+        make(folder).map_err(|error| match error.kind() {
+            ErrorKind::AlreadyExists => taken(folder),
+            _ => failed("make the folder", folder, &error),
+        })?;
+        output.new_folder = true;
         Ok(output)
     }
 
     pub fn one_file(place: &Place, bytes: &[u8]) -> Result<Output, Failure> {
-        let mut output = Output::new(place.folder.clone());
-        output.write(&[(place.name.clone(), bytes)])?;
+        let mut output = Output::new(&place.folder, vec![place.name.clone()]).checked()?;
+        output.write(&[bytes])?;
         Ok(output)
     }
 
-    /// Writes all files under other names first, and gives them their names only when all are written.
     /// A name that is taken already is seen before anything is written.
-    fn write(&mut self, files: &[(OsString, &[u8])]) -> Result<(), Failure> {
-        for (name, _) in files {
-            free(&self.folder.join(name))?;
-        }
-        for (name, bytes) in files {
+    fn checked(self) -> Result<Output, Failure> {
+        self.names.iter().try_for_each(|name| free(&self.folder.join(name)))?;
+        Ok(self)
+    }
+
+    /// Writes a file for each of the names: all under other names first, and gives them their names only when all are
+    /// written.
+    pub fn write(&mut self, contents: &[&[u8]]) -> Result<(), Failure> {
+        let names = self.names.clone();
+        for (name, bytes) in names.iter().zip(contents) {
             interrupt::check()?;
             self.write_part(name, bytes)?;
         }
-        for (name, _) in files {
+        for name in &names {
             interrupt::check()?;
             self.give_name(name)?;
         }
         Ok(())
+    }
+
+    /// Makes the names of the files, and that of the folder, safe from a power cut.
+    pub fn sync_folders(&self) -> Done {
+        sync_folder(&self.folder)?;
+        self.folder.parent().map_or(Ok(()), sync_folder)
     }
 
     /// The name of a file that is not whole yet; it is no other process's.
@@ -181,6 +226,10 @@ impl Drop for Output {
             let _ = fs::remove_dir(&self.folder);
         }
     }
+}
+
+fn make(folder: &Path) -> io::Result<()> {
+    DirBuilder::new().mode(0o700).create(folder)
 }
 
 fn taken(path: &Path) -> Failure {

@@ -1,6 +1,7 @@
 //! What `--help` says.
 
 use crate::failure::refusals;
+use crate::pool::{KEYS, LONGEST, RECORD};
 use crate::scheme::Scheme;
 use gilunavoi::limits::{MAX_ENTRIES, MAX_MESSAGE, MAX_OFFSET_OR_LENGTH, MAX_PARTIES};
 
@@ -9,6 +10,10 @@ sharing splits a message into shares and opens it again from the beginnings of a
 
   sharing scheme [S] [--range START..END | --first BYTES]
       says what a scheme costs, and what a range of a message costs in it
+  sharing pool new POOL KEYFILE
+  sharing pool status POOL
+      keeps a pool of keys, of which each byte is used once, and says how many are left
+  sharing split [--scheme S] [--unpadded] --pool POOL MESSAGE FOLDER
   sharing split [--scheme S] [--unpadded] MESSAGE KEYS FOLDER
       writes one share a party
   sharing prefix [--scheme S] [--length L] --readers D SHARE OUT
@@ -41,12 +46,13 @@ prefix --help and reconstruct --help say what happens otherwise.
 A message is padded before it is split, so that it knows its own end. Shares of the earlier form do not
 know it: split --unpadded writes them, and prefix and reconstruct are told the message's length, L.
 
-This program never draws keys. They come from a file that you name; draw them evenly at random, keep
-them as secret as the message, use each key file for one message only, and destroy it afterwards.
+This program never draws keys: draw them evenly at random, and keep them as secret as the messages. The
+best way to give them is a pool, which uses each byte once and overwrites it; pool --help says more. Where
+they come from a file of their own, use each key file for one message only, and destroy it afterwards.
 
-Files are written whole or not at all, for their owner's eyes only, and none is overwritten. That holds
-on Ctrl-C and on the signals TERM and HUP too. What cannot be caught, such as KILL or a power cut, can
-leave some of the files, and files named .NAME.NUMBER.part: they are as secret as what was to be
+Files are written whole or not at all, for their owner's eyes only, and none is overwritten but those of a
+pool. That holds on Ctrl-C and on the signals TERM and HUP too. What cannot be caught, such as KILL or a power
+cut, can leave some of the files, and files named .NAME.NUMBER.part: they are as secret as what was to be
 written, and for you to remove.
 The exit status is 0 when all went well, 1 when the input was refused or a file could not be read or
 written, and 2 when the command line cannot be understood. A signal ends the program as it ends others.
@@ -86,6 +92,7 @@ Spaces may stand for the commas, here and after --scheme. The former default was
 pub fn split() -> String {
     format!(
         "\
+sharing split [--scheme N,R,Z,D1,D2..] [--unpadded] --pool POOL MESSAGE FOLDER
 sharing split [--scheme N,R,Z,D1,D2..] [--unpadded] MESSAGE KEYS FOLDER
 
 Splits the file MESSAGE, of at most {MAX_MESSAGE} bytes, into one share a party: FOLDER/share-1 and so on. The
@@ -96,10 +103,47 @@ With --unpadded the shares are of the earlier form: zeros alone, and only where 
 full. Keep the message's length then, which is printed: it is needed to open the message, and the shares
 do not hold it.
 
-This program never draws keys: the file KEYS has them. Its length must be Z bytes for each row of each
-block; where it is another, the length that is needed is said. Draw the keys evenly at random, keep them
-as secret as the message, use each key file for one message only, and destroy it afterwards: of two
-messages under the same keys a single party learns something of how they differ.
+This program never draws keys, and a message takes Z of them for each row of each block. Of two messages under
+the same keys a single party learns something of how they differ, so no key byte may be used a second time.
+
+With --pool, which is recommended, the pool sees to that: the next key bytes are taken out of it and overwritten,
+and how many are left is said. They are marked as used before anything of a share is written: where that fails
+afterwards, or is interrupted, they stay used all the same, and are wasted. pool --help says how a pool is made
+and kept.
+
+Without it the file KEYS has the keys, as many as are needed: where its length is another, the one that is needed
+is said. Draw them evenly at random, keep them as secret as the message, use each key file for one message only,
+and destroy it afterwards.
+"
+    )
+}
+
+pub fn pool() -> String {
+    format!(
+        "\
+sharing pool new POOL KEYFILE
+sharing pool status POOL
+
+A pool is a folder with key bytes for many messages. split --pool takes as many as a message needs, in their order:
+each byte is used once, and overwritten. It is the recommended way to give keys.
+
+new     makes the folder POOL, which must not exist, of all bytes of the file KEYFILE, 1 to {LONGEST} of them.
+        Draw them evenly at random. Destroy KEYFILE afterwards: a second pool made of it would use its bytes twice.
+status  prints how many key bytes were loaded, and how many of them are used and left.
+
+The folder has two files, which are for this program alone to change. {KEYS} has the key bytes, and {RECORD} says how
+many there are, and how many of them, from the first on, are used. split writes the record, and waits until it is
+safe on the disk, before it overwrites the used bytes and writes anything of a share. So whatever stops it, KILL
+and a power cut included, bytes can be wasted, and none is used twice. Several runs on one pool wait for each other.
+
+Keep a pool in one place. Never copy it, and never put it or one of its files back from a backup: bytes that were
+used since then would be used a second time. Zeros where the next bytes should be are noticed and refused, since used
+bytes are overwritten with zeros; a copy of the whole folder is not noticed. Best leave a pool out of all backups.
+
+Overwriting does what a program can do, and no more. On flash disks, which SSDs and sticks are, on file systems that
+copy on write or keep a journal or snapshots, and in backups, the old bytes may still be there after they are
+overwritten. Who finds them learns something of the messages from a single share. Keep the pool on a disk that is
+encrypted as a whole: that helps wherever old bytes are left on it.
 "
     )
 }
