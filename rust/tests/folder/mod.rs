@@ -100,7 +100,7 @@ impl Folder {
         assert!(text(&output.stderr).contains(reason), "{line}: {}", text(&output.stderr));
     }
 
-    fn remove(&self, name: &str) {
+    pub fn remove(&self, name: &str) {
         let path = self.0.join(name);
         let _ = if path.is_dir() { fs::remove_dir_all(path) } else { fs::remove_file(path) };
     }
