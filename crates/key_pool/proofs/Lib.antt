@@ -3,3 +3,4 @@ mod WaysOut
 pub mod PassedOn
 pub mod Runs
 pub mod Laws
+mod Examples

@@ -1,7 +1,7 @@
 -- Laws of the record of a pool: what refusal 16 leaves room for, and the record after bytes are taken.
 -- Assumes nothing.
 use mathlib.Core.Path.{_≡_, refl}
-use mathlib.Core.Bool.{Bool, true, false, cond, _&&_}
+use mathlib.Core.Bool.{Bool, true, false, cond, _&&_, _||_}
 use Prim.Native.Nat.{ℕ, _+_, _-_, _≤_}
 use native.Mathlib.Nat.{add-zero}
 use native.Mathlib.Omega.{arith}
@@ -19,9 +19,9 @@ pub record Room (pool : KeyPool) (bytes need : ℕ) : Type 0 where
 pub room : (pool : KeyPool) (bytes need : ℕ) → poolRefused pool bytes need ≡ false → Room pool bytes need
 unfolding poolRefused
 room pool bytes need e =
-    let left = neither _ (ltb (pool .length - pool .position) need) e in
-    let first = neither _ (ltb (pool .length) (pool .position)) (left .0) in
-    let inside : pool .position ≤ pool .length = ltb-false _ _ (first .1) in
+    let first = neither _ (ltb (pool .length) (pool .position) || ltb (pool .length - pool .position) need) e in
+    let left = neither _ (ltb (pool .length - pool .position) need) (first .1) in
+    let inside : pool .position ≤ pool .length = ltb-false _ _ (left .0) in
     let enough : need ≤ pool .length - pool .position = ltb-false _ _ (left .1) in
     record { same = eqb-true _ _ (not-false _ (first .0)); inside = omega arith }
 

@@ -20,7 +20,7 @@ use Rattle.key_pool.specs.Forms.{blocksIn, sharesIn}
 -- refusal 16, for a split that takes `need` bytes from a pool of `bytes`: the record's length is another, or its position is past it, or fewer bytes are left
 unfoldable pub poolRefused : KeyPool → ℕ → ℕ → Bool
 poolRefused pool bytes need =
-    not (eqb (pool .length) bytes) || ltb (pool .length) (pool .position) || ltb (pool .length - pool .position) need
+    not (eqb (pool .length) bytes) || (ltb (pool .length) (pool .position) || ltb (pool .length - pool .position) need)
 
 -- the bytes that a message of so many bytes takes, N × z × b
 abbrev pub needed : Form → Parameters → ℕ → ℕ

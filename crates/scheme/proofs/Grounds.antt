@@ -65,7 +65,7 @@ not-rising n parties =
       fails = λ e h. h (readers-rise n parties e);
     }
 
-either : {s t : Bool} {A B : Type 0} → Reflects s A → Reflects t B → Reflects (s || t) (A ⊎ B)
+pub either : {s t : Bool} {A B : Type 0} → Reflects s A → Reflects t B → Reflects (s || t) (A ⊎ B)
 either {s = true} r q = record { holds = λ e. inl (r .holds refl); fails = λ e h. true≢false e }
 either {s = false} r q = record { holds = λ e. inr (q .holds e); fails = λ e. ⊎-elim (r .fails refl) (q .fails e) }
 

@@ -7,5 +7,6 @@ mod Changes
 pub mod PoolSecrecy
 pub mod PaddedOpening
 pub mod PaddedCalls
+pub mod PoolCalls
 pub mod Range
 pub mod Starred

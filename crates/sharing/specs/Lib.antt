@@ -7,5 +7,6 @@ pub mod PoolSecrecy
 pub mod PaddedOpening
 pub mod PaddedRoundTrip
 pub mod PaddedCalls
+pub mod PoolCalls
 pub mod Range
 pub mod Starred
