@@ -23,6 +23,26 @@ fn split_padded(message: &[u8], keys: &[u8], shares: usize) -> Vec<u8> {
     split_as(true, message, keys, shares)
 }
 
+/// Splits in the same scheme with keys from a pool of four bytes: all shares, and the record after the call, or as it was.
+fn split_from_pool(
+    padded: bool,
+    record: (usize, usize),
+    message: &[u8],
+    shares: usize,
+) -> (Result<Vec<u8>, u64>, (usize, usize)) {
+    let split = if padded { library::split_padded_from_pool } else { library::split_from_pool };
+    let expected = if padded { reference::pool::split_padded } else { reference::pool::split };
+    let (bytes, mut out) = ([1, 2, 9, 4], vec![0; shares]);
+    let mut pool = library::KeyPool { length: record.0, position: record.1 };
+    let answer = split(&mut pool, 3, 1, 1, &[3, 2], message, &bytes, &mut out);
+    let after = (pool.length, pool.position);
+    let expected = expected(record, 3, 1, 1, &[3, 2], message, &bytes, shares);
+    assert_eq!(answer.map(|share| (share, after)), expected.clone().map(|(all, after)| (all.len() as u64 / 3, after)));
+    let written = answer.map(|_| out);
+    assert_eq!(written, expected.map(|(all, _)| all));
+    (written, after)
+}
+
 /// Opens two bytes in the same scheme: the bytes used, and the message.
 fn reconstruct(parties: &[u8], prefixes: &[u8]) -> (u64, Vec<u8>) {
     let mut out = vec![0; 2];
@@ -84,6 +104,21 @@ fn shares_and_messages() {
 
 /// Two parties' row 4 + 7x comes first and has the second byte: the other row, which has both, may be anything. Three
 /// parties send this one alone.
+#[test]
+fn keys_from_a_pool() {
+    let shares = vec![11, 3, 31, 10, 29, 13];
+    assert_eq!(split_from_pool(false, (4, 2), &[5, 7], 6), (Ok(shares), (4, 4)));
+    assert_eq!(split_from_pool(false, (4, 4), &[], 0), (Ok(vec![]), (4, 4)));
+    assert_eq!(split_from_pool(true, (4, 4), &[], 6), (Err(16), (4, 4)));
+    for padded in [false, true] {
+        assert_eq!(split_from_pool(padded, (4, 4), &[5], 6), (Err(16), (4, 4)));
+    }
+    for record in [(3, 2), (5, 2), (4, 5)] {
+        assert_eq!(split_from_pool(false, record, &[], 0), (Err(16), record));
+    }
+    assert_eq!(split_from_pool(false, (4, 3), &[5, 7], 6), (Err(16), (4, 3)));
+}
+
 #[test]
 fn ranges() {
     assert_eq!(reconstruct_range(1, 1, &[1, 3], &[0, 3, 0, 13]), Ok((2, vec![7])));
