@@ -1,0 +1,2 @@
+mod PoolWithScheme
+mod PoolInDefault
