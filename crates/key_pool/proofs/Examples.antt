@@ -1,18 +1,20 @@
 -- Worked examples of the splits from a pool, by computing, in the scheme A, in which two bytes of the earlier form take two key bytes: the order of the
--- refusals, by two faults at once, and the record and the bytes left on both sides of what is refused.
+-- refusals, by two faults at once, the record and the bytes left on both sides of what is refused, and which bytes are the keys.
 -- Assumes nothing.
 use mathlib.Core.Path.{_≡_, refl}
 use mathlib.Core.List.{[], _∷_}
 use Prim.Native.Nat.{ℕ}
+use lib.ListN.{replicate}
 use Rattle.lists.specs.FirstFrom.{firstFrom}
 use Rattle.scheme.specs.Outcome.{accepted, firstOf, answer}
 use Rattle.scheme.specs.BlockLength.{divides, commonMultiple, blockLength}
 use Rattle.scheme.specs.Check.{falls, partiesRefused, thresholdsRefused, countsRefused, blockRefused, refusal, rowsOfBlock, blockCount}
 use Rattle.scheme.specs.Padding.{paddedCount}
 use Rattle.staircase.specs.Parameters.{parameters, schemeA}
+use Rattle.staircase.specs.Shares.{shares, paddedShares}
 use Rattle.key_pool.specs.declared.Form.the-variants.{Earlier, Padded}
 use Rattle.key_pool.specs.declared.KeyPool.{KeyPool}
-use Rattle.key_pool.specs.Pool.{poolRefused, poolRefusal, poolAnswer, poolAfter}
+use Rattle.key_pool.specs.Pool.{poolRefused, poolRefusal, poolAnswer, poolOutput, poolAfter}
 
 abbrev at : ℕ → ℕ → KeyPool
 at length position = record { length = length; position = position }
@@ -40,5 +42,9 @@ pub examples :
     × (poolRefusal Earlier schemeA 0 4 (at 4 5) 0 ≡ 16)
     × (poolRefusal Earlier schemeA 0 4 (at 3 0) 0 ≡ 16)
     × (poolRefusal Earlier schemeA 0 4 (at 5 0) 0 ≡ 16)
-unfolding divides firstFrom commonMultiple blockLength falls partiesRefused thresholdsRefused countsRefused blockRefused firstOf answer refusal rowsOfBlock blockCount paddedCount poolRefused poolRefusal poolAnswer poolAfter
-examples = (refl, refl, refl, refl, refl, refl, refl, refl, refl, refl, refl, refl, refl, refl, refl, refl, refl)
+    -- the keys are those from the position on, rising
+    × (poolOutput Earlier schemeA (5 ∷ 7 ∷ []) (1 ∷ 2 ∷ 9 ∷ 4 ∷ []) (at 4 2) (replicate 6 0) ≡ shares schemeA (5 ∷ 7 ∷ []) (9 ∷ 4 ∷ []))
+    × (poolOutput Earlier schemeA (5 ∷ 7 ∷ []) (1 ∷ 2 ∷ 9 ∷ 4 ∷ []) (at 4 1) (replicate 6 0) ≡ shares schemeA (5 ∷ 7 ∷ []) (2 ∷ 9 ∷ []))
+    × (poolOutput Padded schemeA (5 ∷ []) (1 ∷ 2 ∷ 9 ∷ 4 ∷ []) (at 4 0) (replicate 6 0) ≡ paddedShares schemeA (5 ∷ []) (1 ∷ 2 ∷ []))
+unfolding poolOutput divides firstFrom commonMultiple blockLength falls partiesRefused thresholdsRefused countsRefused blockRefused firstOf answer refusal rowsOfBlock blockCount paddedCount poolRefused poolRefusal poolAnswer poolAfter
+examples = (refl, refl, refl, refl, refl, refl, refl, refl, refl, refl, refl, refl, refl, refl, refl, refl, refl, refl, refl, refl)

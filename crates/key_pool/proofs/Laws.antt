@@ -2,4 +2,4 @@
 -- Assumes nothing.
 pub use Rattle.key_pool.proofs.Room.{Room, room}
 pub use Rattle.key_pool.proofs.WaysOut.{Passed, passed, written, output-long, moves, stays}
-pub use Rattle.key_pool.proofs.Runs.{refusalOf, told-none, none-told, moved-on, run-exists, accounting, used-once}
+pub use Rattle.key_pool.proofs.Runs.{refusalOf, told-none, none-told, moved-on, run-exists, accounting, used-bytes-free, used-once}

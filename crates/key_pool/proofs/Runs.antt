@@ -19,7 +19,7 @@ use Rattle.staircase.specs.Parameters.{shareBytes}
 use Rattle.key_pool.specs.declared.KeyPool.{KeyPool}
 use Rattle.key_pool.specs.Forms.{blocksIn}
 use Rattle.key_pool.specs.Pool.{poolRefusal, poolAnswer, poolAfter, poolOutput, movedBy, tookIf}
-use Rattle.key_pool.specs.Run.{Call, needs, Step, callsOf, IsAccepted, Promised, Run, RunExists, loaded, took, total, Accounting, Takes, UsedOnce}
+use Rattle.key_pool.specs.Run.{Call, needs, Step, IsAccepted, Promised, Run, RunExists, loaded, took, total, Accounting, UsedBytesFree, Takes, UsedOnce}
 use Rattle.key_pool.proofs.WaysOut.{passed}
 
 -- ---- one call
@@ -128,6 +128,13 @@ accounting bytes steps end R =
     let e = ends bytes (loaded (length bytes)) steps end R refl (omega arith) in
     let place : end .position ≡ total (map took steps) = e .0 ∙ zero-add _ in
     record { sum = omega (arith, place, e .1); inside = e .1; long = e .2; refused = left-alone bytes (loaded (length bytes)) steps end R }
+
+-- ---- bytes that are used
+
+pub used-bytes-free : UsedBytesFree
+unfolding poolOutput
+used-bytes-free bytes bytes′ s long rest P =
+    record { answered = P .answered ∙ rw long; wrote = P .wrote ∙ rw (long, rest); moved = P .moved ∙ rw long }
 
 -- ---- each byte once
 

@@ -4,7 +4,7 @@
 use mathlib.Core.Path.{_≡_}
 use mathlib.Core.List.{List, [], _∷_, map}
 use Prim.Native.Nat.{ℕ, _+_, _-_, _≤_, _<_}
-use lib.ListN.{length}
+use lib.ListN.{length, drop}
 use Rattle.lists.specs.Each.{Each}
 use Rattle.scheme.specs.declared.Answer.{Answer}
 use Rattle.scheme.specs.declared.Answer.the-variants.{Value, Refused}
@@ -79,9 +79,18 @@ pub record Accounted (bytes : List ℕ) (steps : List Step) (end : KeyPool) : Ty
 abbrev pub Accounting : Type 0
 Accounting = (bytes : List ℕ) (steps : List Step) (end : KeyPool) → Run bytes (loaded (length bytes)) steps end → Accounted bytes steps end
 
+-- ---- bytes that are used
+
+-- what stands before the position changes nothing: a call on a pool is one on every pool of the same length that has the same bytes from there on. So used
+-- bytes may be overwritten between the calls of a run
+abbrev pub UsedBytesFree : Type 0
+UsedBytesFree =
+    (bytes bytes′ : List ℕ) (s : Step) → length bytes ≡ length bytes′ → drop (s .found .position) bytes ≡ drop (s .found .position) bytes′
+    → Promised bytes s → Promised bytes′ s
+
 -- ---- each byte once
 
--- the pool's byte at place i is a key byte of the call
+-- the pool's byte at place i is one of the bytes that the call took, from the position that it found on
 abbrev pub Takes : Step → ℕ → Type 0
 Takes s i = (s .found .position ≤ i) × (i < s .found .position + took s)
 

@@ -15,7 +15,8 @@ use taking::take;
 mod drawing;
 mod taking;
 
-// The record of a pool: how many bytes it was loaded with, and the position of the next unused one, 0 when it is loaded.
+// The record of a pool: how many bytes it was loaded with, and the position of the next unused one (document 02's place), 0
+// when it is loaded.
 #[repr(C)]
 pub struct KeyPool {
     pub length: usize,

@@ -30,7 +30,7 @@ use Rattle.key_pool.proofs.Laws.{passed, written as pool-written, moves, stays,
 use Rattle.sharing.specs.PoolSecrecy.{LikeLengths, LikeCall, Alike, ByteMessages, Chosen, seenBy, SameSeen, none, one, RunSecrecy, PoolOutcomeFromLengths, RunOutcomeFromLengths}
 use Rattle.sharing.proofs.Secrecy.{secrecy, alike}
 use Rattle.sharing.proofs.PaddedSecrecy.{padded-secrecy}
-use Rattle.sharing.proofs.Changes.{Change, unchanged, front, back, side-by-side, both}
+use Rattle.sharing.proofs.Changes.{Change, unchanged, front, back, both}
 
 -- ---- lengths that are alike decide the same
 

@@ -7,7 +7,6 @@ use mathlib.Core.List.{List, [], _∷_, map}
 use Prim.Native.Nat.{ℕ, _≤_}
 use lib.ListN.{length}
 use Rattle.lists.specs.Each.{Each, Byte}
-use Rattle.scheme.specs.declared.Answer.{Answer}
 use Rattle.scheme.specs.Limits.{maxMessage}
 use Rattle.family.specs.Message.{Bytes}
 use Rattle.staircase.specs.Parameters.{Parameters, Party, paddedBlocksOf}
