@@ -266,10 +266,13 @@ sharing_answer sharing_reconstruct_range_default(
  *
  * - The bytes are drawn evenly at random and kept as secret as the messages. The record starts as their
  *   number and 0.
- * - Every call is lent the same bytes, all of them, and the same record. The bytes serve for nothing else.
- * - The calls alone write the record, and nobody sets it back. Where a pool is stored, the record is stored
- *   before the shares of a split are handed out.
- * - A pool is never copied to be used twice: both copies would take the same bytes.
+ * - Every call is lent all bytes of the pool, and the same record. The bytes from the position on are as they
+ *   were drawn, and serve for nothing else; those before it are used, no call reads them again, and they may,
+ *   and should, be overwritten.
+ * - The calls alone write the record, and nobody sets it back. Where a pool is stored, the new record is safe on
+ *   the disk before the shares of a split are handed out; where it cannot be stored, they are thrown away.
+ * - A pool is never copied to be used twice: both copies would take the same bytes. After fork() only one of the
+ *   two processes goes on using it.
  * - No two threads use the record or the bytes at once.
  * - The record, `out` and what the call reads do not overlap.
  *

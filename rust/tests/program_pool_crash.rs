@@ -108,6 +108,7 @@ fn the_order_of_the_calls() {
     let opened = ["open pool/keys", "flock pool/keys", "fsync pool"];
     let moved = [
         "mkdir shares",
+        "unlink pool/.record.part",
         "open pool/.record.part",
         "write pool/.record.part",
         "fsync pool/.record.part",

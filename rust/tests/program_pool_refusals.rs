@@ -4,7 +4,9 @@ use folder::Folder;
 use gilunavoi::limits::MAX_MESSAGE;
 use gilunavoi::random::Random;
 use pool_folder::{MESSAGE, NEEDED};
-use std::fs;
+use std::fs::{self, File};
+use std::process::Command;
+use std::time::Instant;
 
 // Of what a folder can do, not all is needed here.
 #[allow(dead_code)]
@@ -133,14 +135,15 @@ fn unreadable_records() {
     }
 }
 
-/// A record that is older than the keys: those at its position are zeros. It is noticed even where only the shortest
-/// message came after it.
+/// A record that is older than the keys: those at its position are zeros. It is noticed where at least six bytes were used
+/// since then, as by the shortest message in the former default.
 #[test]
 fn a_record_that_was_set_back() {
     let folder = with_pool("pool-back");
     folder.put("short", b"five!");
-    let zeros = "the next key bytes of the pool \"pool\" are zeros, as used ones are, and would hide nothing: \
-                 its record was set back, or put back from a backup\n";
+    let zeros =
+        "among the unused key bytes of the pool \"pool\" are 6 zeros in a row, as used ones are, and would hide \
+                 nothing: its record was set back, or put back from a backup\n";
     for (scheme, message, used) in [("", "message", NEEDED), ("", "short", 12), ("--scheme 5,2,1,5,4,3 ", "short", 6)] {
         let record = folder.bytes("pool/record");
         let said = folder.says(&format!("split {scheme}--pool pool {message} {message}{used}"));
@@ -152,8 +155,10 @@ fn a_record_that_was_set_back() {
         }
         folder.put("pool/record", &moved);
     }
-    // Fewer zeros than the shortest message takes are keys like any others.
-    folder.put_pool(&[&[0; 5], &[1; 67][..]].concat(), 0);
+    // Zeros further on are noticed too, and fewer in a row are keys like any others.
+    folder.put_pool(&[&[1; 100][..], &[0; 6], &[1; 10]].concat(), 0);
+    fails(&folder, SPLIT, &format!("{zeros}{GIVE_UP}"));
+    folder.put_pool(&[&[0; 5][..], &[1; 60], &[0; 5], &[1; 2], &[0; 5]].concat(), 0);
     folder.says(SPLIT);
 }
 
@@ -212,11 +217,11 @@ fn nobody_is_told() {
 fn new_pools() {
     let folder = with_pool("pool-new");
     folder.put("empty", b"");
-    folder.put("zeros", &[&[0; 6], &[1; 100][..]].concat());
+    folder.put("zeros", &[&[1; 70][..], &[0; 6], &[1; 30]].concat());
     folder.put("keyfile", &Random::new(6).bytes(9000));
     std::os::unix::fs::symlink("nowhere", folder.0.join("link")).expect("a link");
     let taken = |name: &str| format!("\"{name}\" exists already, and nothing is overwritten\n");
-    let zeros = "and it starts with zeros: these are no keys, or keys that were used and overwritten\n";
+    let zeros = "and it has six zeros in a row: these are no keys, or keys that were used and overwritten\n";
     for (line, words) in [
         ("pool new pool keyfile", taken("pool")),
         ("pool new message keyfile", taken("message")),
@@ -226,10 +231,17 @@ fn new_pools() {
         ("pool new other .", "cannot read \".\": ".to_string()),
         ("pool new other empty", "\"empty\" has 0 bytes, and a pool needs at least one key byte\n".to_string()),
         ("pool new other zeros", format!("\"zeros\" has 106 bytes, {zeros}")),
-        ("pool new other pool/keys", format!("\"pool/keys\" has 200 bytes, {zeros}")),
+        ("pool new other pool/keys", "\"pool/keys\" is a file of a pool: ".to_string()),
+        ("pool new other pool/record", "\"pool/record\" is a file of a pool: ".to_string()),
+        ("split message pool/keys shares", "\"pool/keys\" is a file of a pool: ".to_string()),
     ] {
         fails(&folder, line, &words);
     }
+    // A file of that name is one like any other where it is not beside a record.
+    folder.put("keys", &Random::new(8).bytes(NEEDED));
+    folder.says("split message keys shares");
+    folder.remove("shares");
+    folder.says("pool new of-keys keys");
     let left = folder.names();
     folder
         .shell_fails("trap '' XFSZ; ulimit -f 8; exec \"$0\" pool new other keyfile", "cannot write \"other/keys\": ");
@@ -253,6 +265,7 @@ fn usage() {
         ("split --pool pool message", "needed are MESSAGE, FOLDER, and 1 word was given"),
         ("split --pool pool message keys shares more", "needed are MESSAGE, FOLDER, and 4 words were given"),
         ("split message shares --pool", "--pool needs a value after it"),
+        ("split --pool= message shares", "--pool needs the folder of a pool"),
         ("split --pool pool --pool pool message shares", "--pool stands twice"),
         ("split --pool pool --scheme 5,2 message shares", "a scheme is N, R, Z and the counts"),
         ("prefix --pool pool --readers 3 message out", "there is no option \"--pool\" here"),
@@ -260,4 +273,52 @@ fn usage() {
         let said = leaves_pool(&folder, || folder.fails(line, 2));
         assert!(said.contains(words) && said.contains("sharing --help"), "{line}: {said}");
     }
+}
+
+/// Links and pipes where the pool has files of its own: nothing else is written over, and nothing is waited for.
+#[test]
+fn other_files_in_the_way() {
+    let folder = with_pool("pool-links");
+    let (part, before) = (folder.0.join("pool/.record.part"), folder.bytes("pool/keys"));
+    std::os::unix::fs::symlink("../message", &part).expect("a link");
+    folder.says(SPLIT);
+    assert_eq!(folder.bytes("message"), MESSAGE);
+    assert_eq!(folder.position(), 24 + NEEDED);
+    fs::hard_link(folder.0.join("pool/keys"), &part).expect("a link");
+    folder.says("split --pool pool message again");
+    assert_eq!(folder.bytes("pool/keys")[24 + 2 * NEEDED..], before[24 + 2 * NEEDED..]);
+    for name in ["keys", "record"] {
+        folder.remove(&format!("pool/{name}"));
+        let made = Command::new("mkfifo").arg(folder.0.join("pool").join(name)).status().expect("a pipe");
+        assert!(made.success());
+        for line in ["split --pool pool message third", STATUS] {
+            let said = folder.fails(line, 1);
+            assert!(said.contains(&format!("\"pool/{name}\" is no regular file")), "{said}");
+        }
+        folder.put_pool(&before, 24);
+    }
+}
+
+/// A run that waits while another pool takes the place of its own does not mix the two.
+#[test]
+fn a_pool_that_was_replaced() {
+    let folder = with_pool("pool-replaced");
+    let held = File::open(folder.0.join("pool/keys")).expect("keys");
+    held.lock().expect("a lock");
+    let run = folder.command(SPLIT).spawn().expect("the program runs");
+    let waiting = format!("-> FLOCK  ADVISORY  WRITE {} ", run.id());
+    let start = Instant::now();
+    while !fs::read_to_string("/proc/locks").expect("locks").contains(&waiting) {
+        assert!(start.elapsed().as_secs() < 60, "it does not wait");
+    }
+    fs::rename(folder.0.join("pool"), folder.0.join("old")).expect("another name");
+    folder.put_pool(&Random::new(9).bytes(200), 0);
+    let (old, new) = (folder.bytes("old/keys"), folder.bytes("pool/keys"));
+    drop(held);
+    let output = run.wait_with_output().expect("it ends");
+    assert_eq!(output.status.code(), Some(1));
+    let said = String::from_utf8(output.stderr).expect("text");
+    assert!(said.contains("\"pool/keys\" was replaced while it was waited for: run the command again"), "{said}");
+    assert_eq!((folder.bytes("old/keys"), folder.bytes("pool/keys"), folder.position()), (old, new, 0));
+    folder.says(SPLIT);
 }

@@ -102,8 +102,6 @@ fn shares_and_messages() {
     assert_eq!(reconstruct(&[1, 3], &[11, 3, 29, 13]), (4, vec![5, 7]));
 }
 
-/// Two parties' row 4 + 7x comes first and has the second byte: the other row, which has both, may be anything. Three
-/// parties send this one alone.
 #[test]
 fn keys_from_a_pool() {
     let shares = vec![11, 3, 31, 10, 29, 13];
@@ -119,6 +117,8 @@ fn keys_from_a_pool() {
     assert_eq!(split_from_pool(false, (4, 3), &[5, 7], 6), (Err(16), (4, 3)));
 }
 
+/// Two parties' row 4 + 7x comes first and has the second byte: the other row, which has both, may be anything. Three
+/// parties send this one alone.
 #[test]
 fn ranges() {
     assert_eq!(reconstruct_range(1, 1, &[1, 3], &[0, 3, 0, 13]), Ok((2, vec![7])));

@@ -87,9 +87,15 @@ pub fn split_padded_from_pool_default(pool: &mut KeyPool, message: &[u8], pool_b
 /// a copy would take the same bytes again, and who has shares of two messages under the same keys learns from them
 /// something of how the messages differ.
 ///
-/// ```compile_fail
+/// ```compile_fail,E0599
 /// fn twice(pool: gilunavoi::library::Pool) -> [gilunavoi::library::Pool; 2] {
 ///     [pool.clone(), pool]
+/// }
+/// ```
+///
+/// ```compile_fail,E0382
+/// fn twice(pool: gilunavoi::library::Pool) -> [gilunavoi::library::Pool; 2] {
+///     [pool, pool]
 /// }
 /// ```
 pub struct Pool {

@@ -145,6 +145,11 @@ int unlinkat(int folder, const char *path, int flags) {
 
 int unlink(const char *path) { return unlinkat(AT_FDCWD, path, 0); }
 
+int rmdir(const char *path) {
+    begin("rmdir", path, "", 0);
+    return end(syscall(SYS_rmdir, path));
+}
+
 int flock(int file, int operation) {
     begin("flock", name(file), "", 0);
     return end(syscall(SYS_flock, file, operation));

@@ -63,12 +63,20 @@ pub fn failed(action: &str, path: &Path, error: &io::Error) -> Failure {
     Failure::File(format!("cannot {action} {path:?}: {error}"))
 }
 
+/// A pipe in the place of a file would be waited for. One that is not there is left to whoever opens it.
+pub fn check_regular(path: &Path) -> Done {
+    if fs::metadata(path).is_ok_and(|metadata| !metadata.is_file()) {
+        return Err(Failure::File(format!("{path:?} is no regular file")));
+    }
+    Ok(())
+}
+
 /// What was renamed or made in a folder is safe from a power cut only when this is done.
 pub fn sync_folder(folder: &Path) -> Done {
     // The folder of a name without one.
     let folder = if folder.as_os_str().is_empty() { Path::new(".") } else { folder };
     let synced = File::open(folder).and_then(|opened| opened.sync_all());
-    synced.map_err(|error| failed("write", folder, &error))
+    synced.map_err(|error| failed("sync the folder", folder, &error))
 }
 
 /// Where one file is to be written: a folder that exists, and a name in it.

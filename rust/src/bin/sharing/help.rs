@@ -136,9 +136,11 @@ many there are, and how many of them, from the first on, are used. split writes 
 safe on the disk, before it overwrites the used bytes and writes anything of a share. So whatever stops it, KILL
 and a power cut included, bytes can be wasted, and none is used twice. Several runs on one pool wait for each other.
 
-Keep a pool in one place. Never copy it, and never put it or one of its files back from a backup: bytes that were
-used since then would be used a second time. Zeros where the next bytes should be are noticed and refused, since used
-bytes are overwritten with zeros; a copy of the whole folder is not noticed. Best leave a pool out of all backups.
+Keep a pool in one place, on a disk of one machine: on a network drive the runs of several machines may not wait
+for each other, and a folder that is synchronised is a copy. Never copy a pool, and never put it or one of its
+files back from a backup: bytes that were used since then would be used a second time. Used bytes are overwritten
+with zeros, so six zeros in a row among the unused ones are refused; where fewer bytes were used since then, or the
+whole folder is a copy, nothing is noticed. Best leave a pool out of all backups.
 
 Overwriting does what a program can do, and no more. On flash disks, which SSDs and sticks are, on file systems that
 copy on write or keep a journal or snapshots, and in backups, the old bytes may still be there after they are

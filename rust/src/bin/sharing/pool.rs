@@ -3,15 +3,15 @@
 //! that is stopped in between wastes the bytes that it took.
 
 use crate::failure::{Done, Failure};
-use crate::files::{failed, read_opened, sync_folder, Input};
+use crate::files::{check_regular, failed, read_opened, sync_folder, Input};
 use crate::interrupt;
 use crate::record::{read_record, text};
 use crate::report::counted;
 use crate::scheme::Scheme;
 use gilunavoi::library::{self, KeyPool};
 use std::fs::{self, File, OpenOptions};
-use std::io::{self, Write};
-use std::os::unix::fs::{FileExt, OpenOptionsExt};
+use std::io::{self, ErrorKind, Write};
+use std::os::unix::fs::{FileExt, MetadataExt, OpenOptionsExt};
 use std::path::{Path, PathBuf};
 
 /// The names of the two files.
@@ -21,15 +21,28 @@ pub const RECORD: &str = "record";
 /// The most key bytes.
 pub const LONGEST: usize = 1 << 30;
 
-/// So many zeros in a row are no chance, which is one in 2^48, but key bytes that were overwritten. The shortest message
-/// takes as many in the former default, and twice as many in the default.
+/// So many zeros in a row are no chance, which is one in 2^48 at each place, but key bytes that were overwritten, or none at
+/// all. The shortest message takes as many in the former default, and twice as many in the default.
 const TOO_MANY_ZEROS: usize = 6;
 
 /// What to do with a pool of which it is not known any more which bytes are used.
 pub const GIVE_UP: &str = "do not use this pool any more: make a new one of fresh keys";
 
-pub fn starts_with_zeros(keys: &[u8]) -> bool {
-    keys.starts_with(&[0; TOO_MANY_ZEROS])
+pub fn has_zeros(keys: &[u8]) -> bool {
+    let mut zeros = 0;
+    keys.iter().any(|&byte| {
+        zeros = if byte == 0 { zeros + 1 } else { 0 };
+        zeros == TOO_MANY_ZEROS
+    })
+}
+
+/// Refuses a file of a pool where keys are named: its bytes would be used twice.
+pub fn check_no_pool(path: &Path) -> Done {
+    let is = |name: &str| path.file_name() == Some(name.as_ref());
+    if (is(KEYS) || is(RECORD)) && read_record(path.with_file_name(RECORD)).is_ok() {
+        return Err(Failure::File(format!("{path:?} is a file of a pool: its keys are taken by split --pool alone")));
+    }
+    Ok(())
 }
 
 pub struct Pool {
@@ -52,8 +65,10 @@ impl Pool {
 
     fn open(folder: &Path, how: &OpenOptions, lock: fn(&File) -> io::Result<()>) -> Result<Pool, Failure> {
         let path = folder.join(KEYS);
+        check_regular(&path)?;
         let file = how.open(&path).map_err(|error| failed("open", &path, &error))?;
         lock(&file).map_err(|error| failed("lock", &path, &error))?;
+        check_held(&file, &path)?;
         let record = read_record(folder.join(RECORD))?;
         let keys = read_opened(LONGEST, &file, path)?;
         Ok(Pool { folder: folder.to_path_buf(), file, keys, record })
@@ -81,10 +96,10 @@ impl Pool {
         if !self.fits() {
             return Err(self.misfit());
         }
-        if starts_with_zeros(&self.keys.bytes[self.record.position..]) {
+        if has_zeros(&self.keys.bytes[self.record.position..]) {
             return Err(Failure::File(format!(
-                "the next key bytes of the pool {:?} are zeros, as used ones are, and would hide nothing: its record was set \
-                 back, or put back from a backup\n{GIVE_UP}",
+                "among the unused key bytes of the pool {:?} are {TOO_MANY_ZEROS} zeros in a row, as used ones are, and would \
+                 hide nothing: its record was set back, or put back from a backup\n{GIVE_UP}",
                 self.folder
             )));
         }
@@ -148,9 +163,25 @@ impl Pool {
     }
 }
 
-/// What a run that was killed has left under this name is nobody's: the pool is locked.
+/// While a run waited for the lock, another pool may have taken the name: its record would then be read with other keys.
+fn check_held(file: &File, path: &Path) -> Done {
+    let inode = |metadata: fs::Metadata| (metadata.dev(), metadata.ino());
+    let held = file.metadata().map_err(|error| failed("look at", path, &error))?;
+    let named = fs::metadata(path).map_err(|error| failed("look at", path, &error))?;
+    if inode(held) != inode(named) {
+        return Err(Failure::File(format!("{path:?} was replaced while it was waited for: run the command again")));
+    }
+    Ok(())
+}
+
+/// What a run that was killed has left under this name is nobody's, since the pool is locked. It is removed and not written
+/// over: a link there would lead to another file.
 fn write_synced(path: &Path, bytes: &[u8]) -> io::Result<()> {
-    let mut file = OpenOptions::new().write(true).create(true).truncate(true).mode(0o600).open(path)?;
+    match fs::remove_file(path) {
+        Err(error) if error.kind() != ErrorKind::NotFound => return Err(error),
+        _ => {}
+    }
+    let mut file = OpenOptions::new().write(true).create_new(true).mode(0o600).open(path)?;
     file.write_all(bytes)?;
     file.sync_all()
 }

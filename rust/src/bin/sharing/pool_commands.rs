@@ -3,7 +3,7 @@
 use crate::arguments::{paths, usage, Arguments};
 use crate::failure::{Done, Failure};
 use crate::files::{read_up_to, Input, Output};
-use crate::pool::{starts_with_zeros, Pool, KEYS, LONGEST, RECORD};
+use crate::pool::{check_no_pool, has_zeros, Pool, KEYS, LONGEST, RECORD};
 use crate::record::text;
 use crate::report::{counted, say};
 use gilunavoi::library::KeyPool;
@@ -26,8 +26,8 @@ fn check(keys: &Input) -> Done {
         "a pool needs at least one key byte"
     } else if keys.is_too_long() {
         "a pool takes no more"
-    } else if starts_with_zeros(&keys.bytes) {
-        "it starts with zeros: these are no keys, or keys that were used and overwritten"
+    } else if has_zeros(&keys.bytes) {
+        "it has six zeros in a row: these are no keys, or keys that were used and overwritten"
     } else {
         return Ok(());
     };
@@ -36,6 +36,7 @@ fn check(keys: &Input) -> Done {
 
 fn new(words: &[OsString]) -> Done {
     let [folder, keys] = paths(words, ["POOL", "KEYFILE"])?;
+    check_no_pool(&keys)?;
     let keys = read_up_to(LONGEST, keys)?;
     check(&keys)?;
     let record = text(&KeyPool { length: keys.bytes.len(), position: 0 });

@@ -2,7 +2,7 @@
 //! are used.
 
 use crate::failure::Failure;
-use crate::files::read;
+use crate::files::{check_regular, read};
 use crate::pool::GIVE_UP;
 use gilunavoi::library::KeyPool;
 use std::path::PathBuf;
@@ -21,6 +21,7 @@ fn parse(bytes: &[u8]) -> Option<KeyPool> {
 }
 
 pub fn read_record(path: PathBuf) -> Result<KeyPool, Failure> {
+    check_regular(&path)?;
     let file = read(path)?;
     parse(&file.bytes).ok_or_else(|| {
         Failure::File(format!(

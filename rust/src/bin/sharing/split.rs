@@ -3,7 +3,7 @@
 use crate::arguments::{paths, usage, Arguments};
 use crate::failure::{Done, Failure};
 use crate::files::{read, Input, Output};
-use crate::pool::Pool;
+use crate::pool::{check_no_pool, Pool};
 use crate::report::counted;
 use crate::scheme::{Block, Scheme};
 use gilunavoi::library::{self, KeyPool};
@@ -19,6 +19,7 @@ pub fn run(arguments: &Arguments) -> Done {
 
 fn with_key_file(arguments: &Arguments) -> Done {
     let [message, keys, folder] = paths(&arguments.words, ["MESSAGE", "KEYS", "FOLDER"])?;
+    check_no_pool(&keys)?;
     let splitting = Splitting::new(arguments, message)?;
     let shares = splitting.shares(&read(keys)?)?;
     let mut output = Output::in_folder(&folder, splitting.names())?;
@@ -31,6 +32,9 @@ fn with_key_file(arguments: &Arguments) -> Done {
 fn from_pool(arguments: &Arguments, pool: &OsStr) -> Done {
     if arguments.words.len() == 3 {
         return usage("with --pool there are no KEYS: needed are MESSAGE, FOLDER".to_string());
+    }
+    if pool.is_empty() {
+        return usage("--pool needs the folder of a pool".to_string());
     }
     let [message, folder] = paths(&arguments.words, ["MESSAGE", "FOLDER"])?;
     let splitting = Splitting::new(arguments, message)?;
