@@ -146,6 +146,17 @@ impl Output {
         Ok(self)
     }
 
+    /// Tries whether files can be made here, for who would lose something if they cannot: makes an empty one and removes it.
+    pub fn try_to_write(&mut self) -> Done {
+        if let Some(name) = self.names.first().cloned() {
+            self.write_part(&name, &[])?;
+            let part = self.part(&name);
+            fs::remove_file(&part).map_err(|error| failed("write", &part, &error))?;
+            self.made.retain(|made| *made != part);
+        }
+        Ok(())
+    }
+
     /// Writes a file for each of the names: all under other names first, and gives them their names only when all are
     /// written.
     pub fn write(&mut self, contents: &[&[u8]]) -> Result<(), Failure> {

@@ -40,8 +40,9 @@ fn from_pool(arguments: &Arguments, pool: &OsStr) -> Done {
     let splitting = Splitting::new(arguments, message)?;
     let mut pool = Pool::to_use(pool.as_ref())?;
     pool.make_ready()?;
-    // A name that is taken is seen before keys are used for it.
+    // A name that is taken, or a folder that cannot be written in, is seen before keys are used for it.
     let mut output = Output::in_folder(&folder, splitting.names())?;
+    output.try_to_write()?;
     let (shares, record) = splitting.shares_from(&pool)?;
     let used = record.position - pool.record().position;
     pool.mark_used(record)?;
