@@ -326,8 +326,17 @@ uint8_t gf256_mul(uint8_t a, uint8_t b);
 /* The same product, by shifting. */
 uint8_t gf256_mul_by_shifting(uint8_t a, uint8_t b);
 
-/* The byte whose product with a is 1; 0 for 0. */
-uint8_t gf256_inverse(uint8_t a);
+/* Of an inverse: 1 and the byte, or 0 and 0 where there is none. */
+typedef struct {
+    uint64_t exists;
+    uint64_t inverse;
+} gf256_inverse_answer;
+
+/*
+ * The byte whose product with a is 1. 0 has none, so no division by 0 goes on unseen: read exists before
+ * inverse.
+ */
+gf256_inverse_answer gf256_inverse(uint8_t a);
 
 /*
  * Archives. An archive is one file that holds many shares, its entries. It starts with their count, a

@@ -31,13 +31,17 @@ static void sizes(void) {
     EXPECT(sizeof(sharing_scheme) == 24 && sizeof(sharing_answer) == 16 && sizeof(sharing_basis_answer) == 264);
     EXPECT(sizeof(sharing_padded_answer) == 24 && sizeof(archive_entry_answer) == 24 && sizeof(sharing_tried_scheme) == 32);
     EXPECT(sizeof ((sharing_basis_answer *)0)->weights == 256 && sizeof(sharing_key_pool) == 16);
+    EXPECT(sizeof(gf256_inverse_answer) == 16);
 }
 
 static void arithmetic(void) {
     EXPECT(gf256_add(0x57, 0x83) == 0xd4);
     EXPECT(gf256_mul(0x57, 0x83) == 0xc1);
     EXPECT(gf256_mul_by_shifting(0x57, 0x13) == 0xfe);
-    EXPECT(gf256_inverse(2) == 0x8d && gf256_inverse(0) == 0);
+    gf256_inverse_answer a = gf256_inverse(2);
+    EXPECT(a.exists == 1 && a.inverse == 0x8d);
+    a = gf256_inverse(0);
+    EXPECT(a.exists == 0 && a.inverse == 0);
 }
 
 static void schemes(void) {

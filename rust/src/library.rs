@@ -68,8 +68,16 @@ pub fn mul_by_shifting(a: u8, b: u8) -> u8 {
     unsafe { boundary::gf256_mul_by_shifting(a, b) }
 }
 
-pub fn inverse(a: u8) -> u8 {
-    unsafe { boundary::gf256_inverse(a) }
+/// The byte whose product with `a` is 1; 0 has none.
+pub fn inverse(a: u8) -> Option<u8> {
+    let boundary::Gf256InverseAnswer { exists, inverse } = unsafe { boundary::gf256_inverse(a) };
+    match exists {
+        1 => Some(u8::try_from(inverse).expect("an inverse is a byte")),
+        _ => {
+            assert_eq!((exists, inverse), (0, 0), "no inverse comes alone");
+            None
+        }
+    }
 }
 
 pub fn check(n: u8, r: u8, z: u8, counts: &[u8]) -> Checked {

@@ -47,9 +47,9 @@ pub fn mul(a: u8, b: u8) -> u8 {
     products[256 * a as usize + b as usize]
 }
 
-/// The byte whose product with `a` is 1; 0 for 0.
-pub fn inverse(a: u8) -> u8 {
-    (1..=255).find(|&x| mul(a, x) == 1).unwrap_or(0)
+/// The byte whose product with `a` is 1, if there is one.
+pub fn inverse(a: u8) -> Option<u8> {
+    (0..=255).find(|&x| mul(a, x) == 1)
 }
 
 fn gcd(a: u64, b: u64) -> u64 {
@@ -257,7 +257,7 @@ fn solve(mut matrix: Vec<Vec<u8>>) -> Vec<Vec<u8>> {
     for column in 0..size {
         let pivot = (column..size).find(|&row| matrix[row][column] != 0).expect("a unique solution");
         matrix.swap(column, pivot);
-        let factor = inverse(matrix[column][column]);
+        let factor = inverse(matrix[column][column]).expect("a pivot is not 0");
         for entry in &mut matrix[column] {
             *entry = mul(*entry, factor);
         }

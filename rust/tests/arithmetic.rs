@@ -29,5 +29,6 @@ fn all_inverses() {
     for a in 0..=255 {
         assert_eq!(library::inverse(a), reference::inverse(a), "inverse of {a}");
     }
-    println!("256 inverses");
+    assert_eq!((0..=255).filter(|&a| library::inverse(a).is_none()).collect::<Vec<u8>>(), [0], "no inverse");
+    println!("255 inverses, and none for 0");
 }

@@ -89,8 +89,8 @@ fn arithmetic() {
     for (a, b, product) in [(0x57, 0x83, 0xc1), (0x57, 0x13, 0xfe)] {
         assert_eq!([library::mul(a, b), library::mul_by_shifting(a, b), reference::mul(a, b)], [product; 3]);
     }
-    assert_eq!([library::inverse(2), reference::inverse(2)], [0x8d; 2]);
-    assert_eq!([library::inverse(0), reference::inverse(0)], [0; 2]);
+    assert_eq!([library::inverse(2), reference::inverse(2)], [Some(0x8d); 2]);
+    assert_eq!([library::inverse(0), reference::inverse(0)], [None; 2]);
 }
 
 #[test]

@@ -1,5 +1,5 @@
 // Runs the examples of document 01 through the public functions, and prints a line for each: those without a
-// star, which no theorem has, and those with one too; and what document 02, d, says of some schemes. The file `stdout` is
+// star, which no theorem has, and those with one too; and what document 02 says of 0 (g) and of some schemes (d). The file `stdout` is
 // written from the documents.
 mod lengths;
 mod openings;
@@ -7,11 +7,13 @@ mod printing;
 mod schemes;
 mod shares;
 
+use gf256::InverseAnswer;
 use libc::STDOUT_FILENO;
 
 fn main() {
     products();
-    inverse();
+    print_inverse(0x02);
+    print_inverse(0x00);
     schemes::scheme_a();
     shares::rows();
     shares::of_scheme_a();
@@ -38,9 +40,14 @@ fn print_product(a: u8, b: u8) {
     print_hex_result(gf256::mul(a, b));
 }
 
-fn inverse() {
-    io::write_all(STDOUT_FILENO, b"inverse of 02");
-    print_hex_result(gf256::inverse(2));
+fn print_inverse(a: u8) {
+    io::write_all(STDOUT_FILENO, b"inverse of ");
+    io::print_hex(STDOUT_FILENO, a as u64, 2);
+    let InverseAnswer::Inverse(x) = gf256::inverse(a) else {
+        io::write_all(STDOUT_FILENO, b": none\n");
+        return;
+    };
+    print_hex_result(x);
 }
 
 fn print_hex_result(result: u8) {

@@ -5,6 +5,8 @@ use mathlib.Core.Path.{_≡_}
 use mathlib.Core.List.{List, [], _∷_}
 use Prim.Native.Nat.{ℕ, _*_, _/_, _%_}
 use lib.ListN.{length, getD}
+use Rattle.gf256.specs.declared.InverseAnswer.{InverseAnswer}
+use Rattle.gf256.specs.declared.InverseAnswer.the-variants.{Inverse, NoInverse}
 use Rattle.scheme.specs.Outcome.{Outcome}
 use Rattle.lists.specs.Table.{tabulate}
 use Rattle.interpolation.specs.Interpolation.{side}
@@ -18,11 +20,20 @@ use Rattle.reader.specs.Basis.{basisRefusal, basisOf}
 use Rattle.reader.specs.Range.{rangeAnswer, rangeOutput}
 use Rattle.reader.specs.Reconstruct.{reconstructAnswer, reconstructOutput}
 use Rattle.reader.specs.ReconstructPadded.{reconstructPaddedAnswer, reconstructPaddedOutput}
+use Rattle.exports.specs.declared.Gf256InverseAnswer.{Gf256InverseAnswer}
 use Rattle.exports.specs.declared.SharingScheme.{SharingScheme}
 use Rattle.exports.specs.declared.SharingAnswer.{SharingAnswer}
 use Rattle.exports.specs.declared.padded.SharingPaddedAnswer.{SharingPaddedAnswer}
 use Rattle.exports.specs.declared.SharingBasis.{SharingBasis}
 use Rattle.exports.specs.declared.tried.SharingTriedScheme.{SharingTriedScheme}
+
+-- of the inverse: 1 and the inverse, or 0 and 0 where there is none
+abbrev pub inverseFields : Gf256InverseAnswer → List ℕ
+inverseFields a = a .exists ∷ a .inverse ∷ []
+
+abbrev pub invertedFields : InverseAnswer → List ℕ
+invertedFields (Inverse x) = 1 ∷ x ∷ []
+invertedFields NoInverse = 0 ∷ 0 ∷ []
 
 abbrev pub schemeFields : SharingScheme → List ℕ
 schemeFields s = s .refusal ∷ s .block ∷ s .rows ∷ []

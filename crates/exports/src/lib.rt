@@ -9,7 +9,8 @@ ghost use Rattle.scheme.specs.Check.{checked};
 ghost use lib.ListN.{length};
 ghost use Rattle.staircase.specs.Parameters.{parameters, defaultParameters};
 ghost use Rattle.party.specs.Prefix.{prefixAnswer};
-ghost use Rattle.exports.specs.Fields.{schemeFields, checkedFields, answerFields, valueFields, flattened, SplitFields, ReconstructFields, BasisFields};
+ghost use Rattle.exports.specs.Fields.{inverseFields, invertedFields, schemeFields, checkedFields, answerFields, valueFields, flattened, SplitFields, ReconstructFields, BasisFields};
+use gf256::InverseAnswer;
 use interpolation::SIDE;
 use scheme::SchemeAnswer;
 use sharing::Answer;
@@ -41,6 +42,13 @@ pub struct SharingBasis {
 
 const WEIGHTS: usize = SIDE * SIDE;
 
+// 1 and the inverse, or 0 and 0 where there is none.
+#[repr(C)]
+pub struct Gf256InverseAnswer {
+    pub exists: u64,
+    pub inverse: u64,
+}
+
 #[no_mangle]
 pub extern "C" fn gf256_add(a: u8, b: u8) -> u8
     ensures { λ r. ⌜ r ≡ a ⊕ b ⌝ }
@@ -63,10 +71,19 @@ pub extern "C" fn gf256_mul_by_shifting(a: u8, b: u8) -> u8
 }
 
 #[no_mangle]
-pub extern "C" fn gf256_inverse(a: u8) -> u8
-    ensures { λ r. ⌜ r ≡ inverse a ⌝ }
+pub extern "C" fn gf256_inverse(a: u8) -> Gf256InverseAnswer
+    ensures { λ r. ⌜ inverseFields r ≡ invertedFields (inverse a) ⌝ }
 {
-    gf256::inverse(a)
+    match gf256::inverse(a) {
+        InverseAnswer::Inverse(x) => Gf256InverseAnswer {
+            exists: 1,
+            inverse: x as u64,
+        },
+        InverseAnswer::NoInverse => Gf256InverseAnswer {
+            exists: 0,
+            inverse: 0,
+        },
+    }
 }
 
 #[no_mangle]

@@ -1,53 +1,43 @@
--- The inverse: it is one, it is the only one, and no two bytes but 0 have the product 0.
+-- The inverse: it is one, it is the only one, only 0 has none, and no two bytes but 0 have the product 0; the quotient by a byte that is not 0.
 -- The table of 256 inverses is tested once, by computing; each entry's rule follows.
 -- Assumes nothing.
 use mathlib.Core.Path.{_≡_, refl, sym, ap, _∙_}
 use mathlib.Core.Bool.{Bool, true, false, cond, _&&_}
 use mathlib.Core.List.{List, [], _∷_}
-use mathlib.Core.Logic.{_⊎_, inl, inr, ⊎-elim}
-use Prim.Native.Nat.{ℕ, zero, suc, _≤_, _<_}
-use native.Mathlib.Nat.{le-of-suc-le-suc, not-suc-le-zero, eq-or-lt-of-le, le-trans, le-suc, le-refl, zero-lt-suc}
+use mathlib.Core.Logic.{_⊎_, _≢_, inl, inr, ⊎-elim}
+use Prim.Native.Nat.{ℕ, zero, suc, _<_}
+use native.Mathlib.Nat.{le-of-suc-le-suc, le-step, le-refl, not-suc-le-zero, eq-or-lt-of-le, suc-ne-zero}
 use lib.Dec.{T, ltb, eqb, eqb→eq, ltb→lt, lit<}
 use lib.ListN.{getD}
 use borrow.Author.Tests.{eqb-true, eqb-false}
-use Rattle.gf256.specs.Byte.{_⊕_, product, cut, reduce, _⊗_, inverseBelow, inverse}
+use Rattle.gf256.specs.declared.InverseAnswer.{InverseAnswer}
+use Rattle.gf256.specs.declared.InverseAnswer.the-variants.{Inverse, NoInverse}
+use Rattle.gf256.specs.Byte.{_⊕_, product, cut, reduce, _⊗_, inverseBelow, inverse, timesAnswer, _⊘_}
 use Rattle.lists.proofs.Tests.{both-left, both-right}
 use Rattle.lists.proofs.Computed.{at}
-use Rattle.gf256.proofs.Ring.{⊗-comm, ⊗-assoc, ⊗-zero, zero-⊗, one-⊗}
+use Rattle.gf256.proofs.Ring.{⊗-byte, ⊗-comm, ⊗-assoc, ⊗-zero, zero-⊗, ⊗-one, one-⊗}
 
 -- ---- the search finds an inverse where there is one
 
-found-at : (n a : ℕ) (t : Bool) → eqb (a ⊗ n) 1 ≡ t → (t ≡ false → a ⊗ inverseBelow n a ≡ 1) → a ⊗ cond t n (inverseBelow n a) ≡ 1
-found-at n a true e f = eqb-true (a ⊗ n) 1 e
-found-at n a false e f = f refl
+-- found below n: an answered inverse has the product 1, and where none is answered no number below n has it
+abbrev Found : ℕ → ℕ → InverseAnswer → Type 0
+Found n a (Inverse x) = (x < n) × (a ⊗ x ≡ 1)
+Found n a NoInverse = (x : ℕ) → x < n → a ⊗ x ≢ 1
 
-found : (n a x : ℕ) → x < n → a ⊗ x ≡ 1 → a ⊗ inverseBelow n a ≡ 1
+one-more : (n a : ℕ) (t : Bool) (rest : InverseAnswer) → eqb (a ⊗ n) 1 ≡ t → Found n a rest → Found (suc n) a (cond t (Inverse n) rest)
+one-more n a true rest e h = (le-refl (suc n), eqb-true (a ⊗ n) 1 e)
+one-more n a false (Inverse x) e h = (le-step (h .0), h .1)
+one-more n a false NoInverse e h =
+    λ x l. ⊎-elim (λ (q : x ≡ n). λ f. eqb-false (a ⊗ n) 1 e (ap (_⊗_ a) (sym q) ∙ f)) (h x) (eq-or-lt-of-le (le-of-suc-le-suc l))
+
+searched : (n a : ℕ) → Found n a (inverseBelow n a)
 unfolding inverseBelow
-found zero a x h e = absurd (not-suc-le-zero h)
-found (suc n) a x h e =
-    found-at n a (eqb (a ⊗ n) 1) refl
-    (λ f. ⊎-elim (λ q. absurd (eqb-false (a ⊗ n) 1 f (ap (_⊗_ a) (sym q) ∙ e))) (λ l. found n a x l e) (eq-or-lt-of-le (le-of-suc-le-suc h)))
+searched zero a = λ x h. absurd (not-suc-le-zero h)
+searched (suc n) a = one-more n a (eqb (a ⊗ n) 1) (inverseBelow n a) refl (searched n a)
 
-below-at : (n r m : ℕ) (t : Bool) → n < m → r < m → cond t n r < m
-below-at n r m true h l = h
-below-at n r m false h l = l
-
-below : (n a m : ℕ) → 0 < m → n ≤ m → inverseBelow n a < m
-unfolding inverseBelow
-below zero a m p h = p
-below (suc n) a m p h = below-at n (inverseBelow n a) m (eqb (a ⊗ n) 1) h (below n a m p (le-trans (le-suc n) h))
-
-none-at : (n a : ℕ) (t : Bool) → eqb (a ⊗ n) 1 ≡ t → (a ⊗ n ≡ 1 → ⊥) → inverseBelow n a ≡ 0 → cond t n (inverseBelow n a) ≡ 0
-none-at n a true e f r = absurd (f (eqb-true (a ⊗ n) 1 e))
-none-at n a false e f r = r
-
-none : (n a : ℕ) → ((x : ℕ) → a ⊗ x ≡ 1 → ⊥) → inverseBelow n a ≡ 0
-unfolding inverseBelow
-none zero a f = refl
-none (suc n) a f = none-at n a (eqb (a ⊗ n) 1) refl (f n) (none n a f)
-
-zero-not-one : (x : ℕ) → 0 ⊗ x ≡ 1 → ⊥
-zero-not-one x e = eqb-false 0 1 refl (sym (zero-⊗ x) ∙ e)
+found-answer : (a : ℕ) → Found 256 a (inverse a)
+unfolding inverse
+found-answer a = searched 256 a
 
 -- ---- the table
 
@@ -70,6 +60,7 @@ inverses =
     177 ∷ 13 ∷ 214 ∷ 235 ∷ 198 ∷ 14 ∷ 207 ∷ 173 ∷ 8 ∷ 78 ∷ 215 ∷ 227 ∷ 93 ∷ 80 ∷ 30 ∷ 179 ∷
     91 ∷ 35 ∷ 56 ∷ 52 ∷ 104 ∷ 70 ∷ 3 ∷ 140 ∷ 221 ∷ 156 ∷ 125 ∷ 160 ∷ 205 ∷ 26 ∷ 65 ∷ 28 ∷ []
 
+-- the one rule: a byte but 0 times its entry is 1, and the entry of 0 is 0
 right : ℕ → ℕ → Bool
 right zero x = eqb x 0
 right (suc a) x = ltb x 256 && eqb (suc a ⊗ x) 1
@@ -78,49 +69,71 @@ rule : (a : ℕ) → a < 256 → T (right a (getD inverses a 0))
 unfolding inverses right _⊗_ product reduce _⊕_ cut
 rule a h = at right inverses tt a h
 
--- ---- the laws
-
-pub inverse-byte : (a : ℕ) → inverse a < 256
-unfolding inverse
-inverse-byte a = below 256 a 256 (lit< tt) (le-refl 256)
-
-pub inverse-zero : inverse 0 ≡ 0
-unfolding inverse
-inverse-zero = none 256 0 zero-not-one
-
-pub ⊗-inverse : (a : ℕ) → 0 < a → a < 256 → a ⊗ inverse a ≡ 1
-unfolding inverse right
-⊗-inverse zero p h = absurd (not-suc-le-zero p)
-⊗-inverse (suc a) p h =
-    found 256 (suc a) x (ltb→lt x 256 (both-left (ltb x 256) (eqb (suc a ⊗ x) 1) (rule (suc a) h)))
-    (eqb→eq (suc a ⊗ x) 1 (both-right (ltb x 256) (eqb (suc a ⊗ x) 1) (rule (suc a) h)))
+entry-right : (a : ℕ) → a ≢ 0 → a < 256 → (getD inverses a 0 < 256) × (a ⊗ getD inverses a 0 ≡ 1)
+unfolding right
+entry-right zero n h = absurd (n refl)
+entry-right (suc a) n h = (ltb→lt x 256 (both-left (ltb x 256) (eqb (suc a ⊗ x) 1) (rule (suc a) h)), eqb→eq (suc a ⊗ x) 1 (both-right (ltb x 256) (eqb (suc a ⊗ x) 1) (rule (suc a) h)))
   where
     x : ℕ
     x = getD inverses (suc a) 0
 
--- a factor that is not 0 may be left out
-pub ⊗-cancel : (a b c : ℕ) → 0 < a → a < 256 → b < 256 → c < 256 → a ⊗ b ≡ a ⊗ c → b ≡ c
-⊗-cancel a b c p h hb hc e = sym (undo b hb) ∙ ap (_⊗_ (inverse a)) e ∙ undo c hc
-  where
-    undo : (x : ℕ) → x < 256 → inverse a ⊗ (a ⊗ x) ≡ x
-    undo x hx =
-        sym (⊗-assoc (inverse a) a x) ∙ ap (λ y. y ⊗ x) (⊗-comm (inverse a) a ∙ ⊗-inverse a p h) ∙ one-⊗ x hx
+-- ---- the laws
 
-pub inverse-unique : (a x : ℕ) → 0 < a → a < 256 → x < 256 → a ⊗ x ≡ 1 → x ≡ inverse a
-inverse-unique a x p h hx e = ⊗-cancel a x (inverse a) p h hx (inverse-byte a) (e ∙ sym (⊗-inverse a p h))
+-- a factor that has an inverse may be left out
+cancel-by : (a i b c : ℕ) → a ⊗ i ≡ 1 → b < 256 → c < 256 → a ⊗ b ≡ a ⊗ c → b ≡ c
+cancel-by a i b c one hb hc e = sym (undo b hb) ∙ ap (_⊗_ i) e ∙ undo c hc
+  where
+    undo : (x : ℕ) → x < 256 → i ⊗ (a ⊗ x) ≡ x
+    undo x hx = sym (⊗-assoc i a x) ∙ ap (λ y. y ⊗ x) (⊗-comm i a ∙ one) ∙ one-⊗ x hx
+
+-- and so may one that is not 0
+pub ⊗-cancel : (a b c : ℕ) → a ≢ 0 → a < 256 → b < 256 → c < 256 → a ⊗ b ≡ a ⊗ c → b ≡ c
+⊗-cancel a b c n h = cancel-by a (getD inverses a 0) b c (entry-right a n h .1)
+
+pub ⊗-inverse : (a x : ℕ) → inverse a ≡ Inverse x → (x < 256) × (a ⊗ x ≡ 1)
+⊗-inverse a x e = rw e at (found-answer a)
+
+pub inverse-only : (a x : ℕ) → a < 256 → x < 256 → a ⊗ x ≡ 1 → inverse a ≡ Inverse x
+inverse-only a x h hx e = only (inverse a) (found-answer a)
+  where
+    only : (answer : InverseAnswer) → Found 256 a answer → answer ≡ Inverse x
+    only (Inverse y) r = ap Inverse (cancel-by a x y x e (r .0) hx (r .1 ∙ sym e))
+    only NoInverse r = absurd (r x hx e)
+
+-- each entry of the table but that of 0 is the inverse
+pub entry : (a : ℕ) → a ≢ 0 → a < 256 → inverse a ≡ Inverse (getD inverses a 0)
+entry a n h =
+    let r = entry-right a n h in
+    inverse-only a (getD inverses a 0) h (r .0) (r .1)
+
+pub inverse-zero : inverse 0 ≡ NoInverse
+inverse-zero = none (inverse 0) (found-answer 0)
+  where
+    none : (answer : InverseAnswer) → Found 256 0 answer → answer ≡ NoInverse
+    none (Inverse y) r = absurd (eqb-false 0 1 refl (sym (zero-⊗ y) ∙ r .1))
+    none NoInverse r = refl
+
+pub no-inverse : (a : ℕ) → a < 256 → inverse a ≡ NoInverse → a ≡ 0
+no-inverse zero h e = refl
+no-inverse (suc a) h e =
+    let r = entry-right (suc a) (suc-ne-zero a) h in
+    absurd ((rw e at (found-answer (suc a))) (getD inverses (suc a) 0) (r .0) (r .1))
 
 pub no-zero-divisors : (a b : ℕ) → a < 256 → b < 256 → a ⊗ b ≡ 0 → (a ≡ 0) ⊎ (b ≡ 0)
 no-zero-divisors zero b h hb e = inl refl
-no-zero-divisors (suc a) b h hb e = inr (⊗-cancel (suc a) b 0 (zero-lt-suc a) h hb (lit< tt) (e ∙ sym (⊗-zero (suc a))))
+no-zero-divisors (suc a) b h hb e = inr (⊗-cancel (suc a) b 0 (suc-ne-zero a) h hb (lit< tt) (e ∙ sym (⊗-zero (suc a))))
 
--- ---- each entry of the table is the inverse
+-- ---- the quotient
 
-pub entry : (a : ℕ) → a < 256 → getD inverses a 0 ≡ inverse a
-unfolding right
-entry zero h = eqb→eq (getD inverses 0 0) 0 (rule 0 h) ∙ sym inverse-zero
-entry (suc a) h =
-    inverse-unique (suc a) x (zero-lt-suc a) h (ltb→lt x 256 (both-left (ltb x 256) (eqb (suc a ⊗ x) 1) (rule (suc a) h)))
-    (eqb→eq (suc a ⊗ x) 1 (both-right (ltb x 256) (eqb (suc a ⊗ x) 1) (rule (suc a) h)))
+pub ⊘-⊗ : (a b : ℕ) → b ≢ 0 → a < 256 → b < 256 → (a ⊘ b < 256) × (a ⊘ b ⊗ b ≡ a)
+unfolding _⊘_
+⊘-⊗ a b n ha hb = of (inverse b) refl
   where
-    x : ℕ
-    x = getD inverses (suc a) 0
+    of : (answer : InverseAnswer) → inverse b ≡ answer → (timesAnswer a answer < 256) × (timesAnswer a answer ⊗ b ≡ a)
+    of (Inverse x) e = (⊗-byte a x, ⊗-assoc a x b ∙ ap (_⊗_ a) (⊗-comm x b ∙ ⊗-inverse b x e .1) ∙ ⊗-one a ha)
+    of NoInverse e = absurd (n (no-inverse b hb e))
+
+pub ⊘-only : (a b x : ℕ) → b ≢ 0 → a < 256 → b < 256 → x < 256 → x ⊗ b ≡ a → x ≡ a ⊘ b
+⊘-only a b x n ha hb hx e =
+    let q = ⊘-⊗ a b n ha hb in
+    ⊗-cancel b x (a ⊘ b) n hb hx (q .0) (⊗-comm b x ∙ e ∙ sym (⊗-comm b (a ⊘ b) ∙ q .1))

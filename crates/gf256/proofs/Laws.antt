@@ -3,7 +3,7 @@
 use Rattle.gf256.specs.Field.{Field}
 pub use Rattle.gf256.proofs.Digits.{⊕-assoc, ⊕-left-comm, interchange}
 pub use Rattle.gf256.proofs.Ring.{⊕-comm, zero-⊕, ⊕-zero, ⊕-self, ⊕-twice, ⊕-back, ⊕-equal, ⊕-byte, ⊗-byte, ⊗-assoc, ⊗-comm, ⊗-left-comm, ⊗-⊕, ⊕-⊗, ⊗-zero, zero-⊗, ⊗-one, one-⊗, ⊗-by-digit}
-pub use Rattle.gf256.proofs.Inverses.{inverse-byte, inverse-zero, ⊗-inverse, ⊗-cancel, inverse-unique, no-zero-divisors}
+pub use Rattle.gf256.proofs.Inverses.{inverse-zero, no-inverse, ⊗-inverse, inverse-only, ⊗-cancel, no-zero-divisors, ⊘-⊗, ⊘-only}
 pub use Rattle.gf256.proofs.Powers.{power-byte, power-add}
 
 pub field : Field
@@ -18,11 +18,13 @@ field =
       ⊗-⊕ = ⊗-⊕;
       ⊗-zero = ⊗-zero;
       ⊗-one = ⊗-one;
-      ⊗-inverse = ⊗-inverse;
-      inverse-unique = inverse-unique;
       inverse-zero = inverse-zero;
+      no-inverse = no-inverse;
+      ⊗-inverse = ⊗-inverse;
+      inverse-only = inverse-only;
+      ⊘-⊗ = ⊘-⊗;
+      ⊘-only = ⊘-only;
       no-zero-divisors = no-zero-divisors;
       ⊕-byte = ⊕-byte;
       ⊗-byte = ⊗-byte;
-      inverse-byte = inverse-byte;
     }

@@ -5,9 +5,12 @@ use mathlib.Core.Bool.{cond}
 use Prim.Native.Nat.{ℕ, zero, suc, _+_, _*_, _/_, _%_}
 use lib.Bits.{bitXor}
 use lib.Dec.{eqb}
+use Rattle.gf256.specs.declared.InverseAnswer.{InverseAnswer}
+use Rattle.gf256.specs.declared.InverseAnswer.the-variants.{Inverse, NoInverse}
 
 infixl 65 _⊕_
 infixl 70 _⊗_
+infixl 70 _⊘_
 -- 4.1: the sum, and the difference, is exclusive or
 unfoldable pub _⊕_ : ℕ → ℕ → ℕ
 a ⊕ b = bitXor a b
@@ -42,13 +45,22 @@ unfoldable pub power : ℕ → ℕ → ℕ
 power a zero = 1
 power a (suc n) = a ⊗ power a n
 
--- the largest number below n whose product with a is 1, and 0 where there is none
-unfoldable pub inverseBelow : ℕ → ℕ → ℕ
-inverseBelow zero a = 0
+-- the largest number below n whose product with a is 1, or that there is none
+unfoldable pub inverseBelow : ℕ → ℕ → InverseAnswer
+inverseBelow zero a = NoInverse
 inverseBelow (suc n) a =
-    let rest : ℕ = inverseBelow n a in
-    cond (eqb (a ⊗ n) 1) n rest
+    let rest : InverseAnswer = inverseBelow n a in
+    cond (eqb (a ⊗ n) 1) (Inverse n) rest
 
--- the inverse of a byte; that of 0 is 0
-unfoldable pub inverse : ℕ → ℕ
+-- the inverse of a byte, found by trial; 0 has none
+unfoldable pub inverse : ℕ → InverseAnswer
 inverse a = inverseBelow 256 a
+
+-- a number times what is answered for an inverse
+abbrev pub timesAnswer : ℕ → InverseAnswer → ℕ
+timesAnswer a (Inverse x) = a ⊗ x
+timesAnswer a NoInverse = 0
+
+-- the quotient of two bytes. Its law, `⊘-⊗` of Field.antt, asks for a divisor b that is not 0; no statement says what stands here for a division by 0
+unfoldable pub _⊘_ : ℕ → ℕ → ℕ
+a ⊘ b = timesAnswer a (inverse b)

@@ -7,6 +7,12 @@ ghost use Rattle.gf256.specs.Byte.{_⊕_, _⊗_, power};
 pub mod lanes;
 mod tables;
 
+// What is answered where an inverse is asked for: the inverse, or that there is none.
+pub enum InverseAnswer {
+    Inverse(u8),
+    NoInverse,
+}
+
 // The sum of two bytes, and their difference.
 pub fn add(a: u8, b: u8) -> u8
     ensures { λ r. ⌜ r ≡ a ⊕ b ⌝ }
@@ -44,11 +50,14 @@ pub fn mul_by_shifting(a: u8, b: u8) -> u8
     sum
 }
 
-// The inverse of a byte; that of 0 is 0.
-pub fn inverse(a: u8) -> u8
+// The inverse of a byte; 0 has none (document 02, g), and its entry of the table is not read.
+pub fn inverse(a: u8) -> InverseAnswer
     ensures { λ r. ⌜ r ≡ byte.inverse a ⌝ }
 {
-    tables::INVERSES[a as usize]
+    if 0 < a {
+        return InverseAnswer::Inverse(tables::INVERSES[a as usize]);
+    }
+    InverseAnswer::NoInverse
 }
 
 // A byte times 2. No branch: a byte of 128 or more loses its highest bit, and what is left of the

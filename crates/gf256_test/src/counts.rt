@@ -2,6 +2,7 @@
 ghost use mathlib.Core.Path.{_≡_};
 ghost use Prim.Native.Nat.{_≤_};
 ghost use Rattle.gf256.specs.Lanes.{lanes};
+use gf256::InverseAnswer;
 use gf256::lanes::LANES;
 
 // 1 where the bytes differ, else 0.
@@ -27,15 +28,22 @@ pub(crate) fn different_products() -> u64
     count
 }
 
-// The bytes above 0 that give 1 times their inverse.
+// 1 where the byte has an inverse and gives 1 times it, else 0.
+fn inverted(a: u8) -> u64
+    ensures { λ r. ⌜ r ≤ 1 ⌝ }
+{
+    let InverseAnswer::Inverse(x) = gf256::inverse(a) else {
+        return 0;
+    };
+    if gf256::mul(a, x) == 1 { 1 } else { 0 }
+}
+
+// The bytes, of all, that give 1 times their inverse.
 pub(crate) fn inverses() -> u64 {
     let mut count: u64 = 0;
-    let mut a: u64 = 1;
+    let mut a: u64 = 0;
     while a < 256 {
-        let x = a as u8;
-        if gf256::mul(x, gf256::inverse(x)) == 1 {
-            count += 1;
-        }
+        count += inverted(a as u8);
         a += 1;
     }
     count

@@ -16,12 +16,12 @@ use Rattle.lists.specs.Without.{without}
 use Rattle.lists.proofs.Tests.{cond-ind}
 use Rattle.lists.proofs.Each.{each-getD, each-of, each-map, each-replicate, each-tabulate, replicate-at, getD-map}
 use Rattle.lists.proofs.Table.{length-tabulate, getD-tabulate, tabulate-is}
-use Rattle.lists.proofs.Without.{length-without, each-without, without-other, without-distinct}
-use Rattle.gf256.specs.Byte.{_⊕_, _⊗_, inverse}
-use Rattle.gf256.proofs.Laws.{zero-⊕, ⊕-zero, interchange, ⊗-⊕, ⊗-zero, ⊗-one, ⊗-comm, ⊗-inverse}
+use Rattle.lists.proofs.Without.{length-without, without-other}
+use Rattle.gf256.specs.Byte.{_⊕_, _⊗_}
+use Rattle.gf256.proofs.Laws.{zero-⊕, ⊕-zero, interchange, ⊗-⊕, ⊗-zero, ⊗-one, ⊗-comm}
 use Rattle.interpolation.specs.Polynomial.{eval, values, plus, scale, vanishing, sumTo}
 use Rattle.interpolation.specs.Interpolation.{unit, basis}
-use Rattle.interpolation.proofs.Polynomial.{eval-plus, eval-scale, eval-zeros, eval-byte, plus-at, plus-byte, plus-length, scale-at, scale-byte, scale-length, vanishing-byte, vanishing-length, vanishing-zero, vanishing-nonzero}
+use Rattle.interpolation.proofs.Polynomial.{eval-plus, eval-scale, eval-zeros, eval-byte, plus-at, plus-byte, plus-length, scale-at, scale-byte, scale-length, vanishing-length, vanishing-zero}
 use Rattle.interpolation.proofs.Unique.{unique}
 use Rattle.interpolation.proofs.Through.{through-byte, through-length, through-values}
 
@@ -72,9 +72,9 @@ module _ (ps : List ℕ) (bytes : Each Byte ps) (apart : Distinct ps) where
   basis-unique i cs n b h =
       unique ps cs (basis ps i) bytes apart b (basis-byte ps i) (n ∙ sym (basis-length ps i)) (omega arith) (h ∙ sym (basis-rule i))
 
-  -- the product over the other points, divided by its value at the point
-  pub basis-formula : (i : ℕ) → i < length ps → basis ps i ≡ scale (inverse (eval (getD ps i 0) (vanishing (without i ps)))) (vanishing (without i ps))
-  basis-formula i h =
+  -- the product over the other points, times the inverse of its value at the point
+  pub basis-formula : (i k : ℕ) → i < length ps → eval (getD ps i 0) (vanishing (without i ps)) ⊗ k ≡ 1 → basis ps i ≡ scale k (vanishing (without i ps))
+  basis-formula i k h one =
       sym
       (basis-unique i (scale k others) (scale-length k others ∙ vanishing-length (without i ps) ∙ length-without ps i h) (scale-byte k others)
       (unit-values ps (scale k others) i (λ j b. eval-scale (getD ps j 0) k others ∙ at j b (eqb j i) refl)))
@@ -82,22 +82,8 @@ module _ (ps : List ℕ) (bytes : Each Byte ps) (apart : Distinct ps) where
       others : List ℕ
       others = vanishing (without i ps)
 
-      w : ℕ
-      w = eval (getD ps i 0) others
-
-      k : ℕ
-      k = inverse w
-
-      own : k ⊗ w ≡ 1
-      own =
-          let hw : Byte w = eval-byte (getD ps i 0) others (vanishing-byte (without i ps)) in
-          let nw : w ≢ 0 =
-          vanishing-nonzero (getD ps i 0) (each-getD Byte ps i 0 h bytes) (without i ps) (each-without Byte ps i bytes)
-          (without-distinct ps i h apart) in
-          ⊗-comm k w ∙ ⊗-inverse w (omega arith) hw
-
       at : (j : ℕ) → j < length ps → (t : Bool) → eqb j i ≡ t → k ⊗ eval (getD ps j 0) others ≡ cond t 1 0
-      at j b true e = ap (λ (n : ℕ). k ⊗ eval (getD ps n 0) others) (eqb-true j i e) ∙ own
+      at j b true e = ap (λ (n : ℕ). k ⊗ eval (getD ps n 0) others) (eqb-true j i e) ∙ ⊗-comm k (eval (getD ps i 0) others) ∙ one
       at j b false e =
           ap (_⊗_ k) (without-other (λ x. eval x others ≡ 0) ps i j 0 b (eqb-false j i e) (vanishing-zero (without i ps))) ∙ ⊗-zero k
 

@@ -1,5 +1,6 @@
 mod Polynomial
 mod Above
+mod Divisors
 mod Unique
 mod Through
 mod Lagrange

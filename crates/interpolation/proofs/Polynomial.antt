@@ -204,18 +204,3 @@ vanishing-zero (p ∷ ps) =
     more : (xs : List ℕ) → Each (λ x. eval x (vanishing ps) ≡ 0) xs → Each (λ x. eval x (vanishing (p ∷ ps)) ≡ 0) xs
     more [] h = tt
     more (x ∷ xs) h = (vanishing-next x p ps ∙ ap (_⊗_ (x ⊕ p)) (h .0) ∙ ⊗-zero (x ⊕ p), more xs (h .1))
-
--- and at no other byte
-pub vanishing-nonzero : (x : ℕ) → Byte x → (ps : List ℕ) → Each Byte ps → Each (λ p. x ≢ p) ps → eval x (vanishing ps) ≢ 0
-unfolding next eval vanishing
-vanishing-nonzero x hx [] b n e =
-    let one : _≡_ {A = ℕ} 1 0 = sym (⊕-zero 1) ∙ ap (_⊕_ 1) (sym (⊗-zero x)) ∙ e in
-    omega arith
-vanishing-nonzero x hx (p ∷ ps) b n e =
-    split
-    (no-zero-divisors (x ⊕ p) (eval x (vanishing ps)) (⊕-byte x p hx (b .0)) (eval-byte x (vanishing ps) (vanishing-byte ps)) (sym (vanishing-next x p ps) ∙ e))
-    (vanishing-nonzero x hx ps (b .1) (n .1))
-  where
-    split : (x ⊕ p ≡ 0) ⊎ (eval x (vanishing ps) ≡ 0) → eval x (vanishing ps) ≢ 0 → ⊥
-    split (inl z) rest = n .0 (⊕-equal x p z)
-    split (inr z) rest = rest z

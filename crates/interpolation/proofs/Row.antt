@@ -3,6 +3,7 @@
 -- Assumes nothing.
 use mathlib.Core.Path.{_≡_, refl, sym, ap, ap₂, _∙_}
 use mathlib.Core.Bool.{true}
+use mathlib.Core.Logic.{_≢_}
 use mathlib.Core.List.{List}
 use Prim.Native.Nat.{ℕ, suc, _+_, _≤_, _<_}
 use native.Mathlib.Numerals.{add-one}
@@ -16,12 +17,15 @@ use Rattle.lists.proofs.Each.{distinct-true, replicate-at}
 use Rattle.lists.proofs.Known.{Known, known-more}
 use Rattle.lists.proofs.Table.{getD-tabulate, tabulate-same}
 use Rattle.lists.proofs.Without.{length-without}
+use Rattle.gf256.specs.declared.InverseAnswer.the-variants.{Inverse, NoInverse}
 use Rattle.gf256.specs.Byte.{_⊕_, _⊗_, inverse}
 use Rattle.gf256.specs.Lanes.{lanes, scaled}
-use Rattle.gf256.proofs.Laws.{⊕-back, ⊗-comm}
+use Rattle.gf256.proofs.Laws.{⊕-back, ⊗-comm, ⊗-inverse}
 use Rattle.interpolation.specs.Polynomial.{next, eval, vanishing, lowest}
 use Rattle.interpolation.specs.Interpolation.{side, weight}
+use Rattle.interpolation.specs.Divisors.{Divisors}
 use Rattle.interpolation.proofs.Polynomial.{scale-at, linear-next, vanishing-length, vanishing-without}
+use Rattle.interpolation.proofs.Divisors.{divisors}
 use Rattle.interpolation.proofs.Lagrange.{basis-formula}
 use Rattle.interpolation.proofs.Weights.{weight-within}
 
@@ -80,18 +84,31 @@ module _ (ps : List ℕ) (i : ℕ) (inside : i < length ps) (short : length ps �
             ∙ sym (ap (eval (getD ps i 0)) (drop-cons (others ps i) e 0 (omega (arith, o .within, others-length))));
       }
 
-  -- all divided: over its value at point i the quotient is the row
-  pub divided-row : (e : ℕ) (quotient : List ℕ) (above value : ℕ) → distinct ps ≡ true → Each Byte ps
-      → e ≤ 0 → Divided ps i e quotient above value → lowest side (scaled (inverse value) quotient) ≡ tabulate side (weight ps i)
-  unfolding scaled
-  divided-row e quotient above value d bytes z o =
+  -- all divided: the value is that of the product over the other points, at point i
+  pub divided-value : (e : ℕ) (quotient : List ℕ) (above value : ℕ) → e ≤ 0 → Divided ps i e quotient above value → value ≡ eval (getD ps i 0) (others ps i)
+  divided-value e quotient above value z o =
       let none : e ≡ 0 = omega arith in
-      let whole : value ≡ eval (getD ps i 0) (others ps i) = rw none at (o .at-own) in
+      rw none at (o .at-own)
+
+  -- so it has an inverse
+  pub divided-invertible : (e : ℕ) (quotient : List ℕ) (above value : ℕ) → distinct ps ≡ true → Each Byte ps → e ≤ 0 → Divided ps i e quotient above value
+      → inverse value ≢ NoInverse
+  divided-invertible e quotient above value d bytes z o =
+      let D : Divisors ps = divisors ps bytes (distinct-true ps d) in
+      rw (divided-value e quotient above value z o) (D .invertible (eval (getD ps i 0) (others ps i)) (D .of-row i inside))
+
+  -- and times that the quotient is the row
+  pub divided-row : (e : ℕ) (quotient : List ℕ) (above value factor : ℕ) → distinct ps ≡ true → Each Byte ps
+      → e ≤ 0 → Divided ps i e quotient above value → inverse value ≡ Inverse factor → lowest side (scaled factor quotient) ≡ tabulate side (weight ps i)
+  unfolding scaled
+  divided-row e quotient above value factor d bytes z o found =
+      let one : eval (getD ps i 0) (others ps i) ⊗ factor ≡ 1 =
+      rw (divided-value e quotient above value z o) at (⊗-inverse value factor found .1) in
       tabulate-same side _ _
       (λ k l.
-      getD-tabulate lanes (λ n. inverse value ⊗ getD quotient n 0) k 0 (omega arith)
-      ∙ ap₂ (λ (v c : ℕ). inverse v ⊗ c) whole (o .found .is k (omega arith) (omega arith))
+      getD-tabulate lanes (λ n. factor ⊗ getD quotient n 0) k 0 (omega arith)
+      ∙ ap (_⊗_ factor) (o .found .is k (omega arith) (omega arith))
       ∙ sym
       (weight-within ps i k inside short d
-      ∙ ap (λ (w : List ℕ). getD w k 0) (basis-formula ps bytes (distinct-true ps d) i inside)
-      ∙ scale-at (inverse (eval (getD ps i 0) (others ps i))) (others ps i) k))
+      ∙ ap (λ (w : List ℕ). getD w k 0) (basis-formula ps bytes (distinct-true ps d) i factor inside one)
+      ∙ scale-at factor (others ps i) k))

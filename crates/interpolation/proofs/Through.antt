@@ -5,17 +5,19 @@ use mathlib.Core.Path.{_≡_, refl, sym, ap, ap₂, _∙_}
 use mathlib.Core.Logic.{_≢_}
 use mathlib.Core.List.{List, [], _∷_, map}
 use Prim.Native.Nat.{ℕ, suc, _-_, _≤_}
-use native.Mathlib.Nat.{suc-inj, suc-ne-zero}
+use native.Mathlib.Nat.{suc-inj, suc-ne-zero, zero-lt-suc}
 use native.Mathlib.Omega.{arith}
 use lib.Dec.{lit<}
 use lib.ListN.{length, getD, drop, length-append, length-replicate}
 use Rattle.lists.specs.Each.{Each, Distinct, Byte}
 use Rattle.lists.proofs.Each.{each-append, each-replicate}
-use Rattle.gf256.specs.Byte.{_⊕_, _⊗_, inverse}
-use Rattle.gf256.proofs.Laws.{⊕-comm, ⊕-zero, ⊕-twice, ⊕-byte, ⊗-assoc, ⊗-comm, ⊗-one, ⊗-zero, ⊗-inverse}
+use Rattle.gf256.specs.Byte.{_⊕_, _⊗_, _⊘_}
+use Rattle.gf256.proofs.Laws.{⊕-comm, ⊕-zero, ⊕-twice, ⊕-byte, ⊗-zero, ⊘-⊗}
 use Rattle.interpolation.specs.Polynomial.{eval, values, plus, scale, vanishing}
 use Rattle.interpolation.specs.Interpolation.{through, fitted, Interpolation}
-use Rattle.interpolation.proofs.Polynomial.{eval-plus, eval-scale, eval-append-zeros, eval-byte, plus-byte, plus-length-longer, scale-byte, scale-length, vanishing-byte, vanishing-length, vanishing-zero, vanishing-nonzero}
+use Rattle.interpolation.proofs.Polynomial.{eval-plus, eval-scale, eval-append-zeros, eval-byte, plus-byte, plus-length-longer, scale-byte, scale-length, vanishing-byte, vanishing-length, vanishing-zero}
+use Rattle.interpolation.specs.Divisors.{Divisors}
+use Rattle.interpolation.proofs.Divisors.{divisors}
 use Rattle.interpolation.proofs.Unique.{unique}
 
 -- ---- through
@@ -38,11 +40,11 @@ through-length (p ∷ ps) vs = lengthened _ _ _ (through-length ps (drop 1 vs))
 
 through-next : (x p : ℕ) (ps vs : List ℕ)
     → eval x (through (p ∷ ps) vs)
-    ≡ eval x (through ps (drop 1 vs)) ⊕ (getD vs 0 0 ⊕ eval p (through ps (drop 1 vs))) ⊗ inverse (eval p (vanishing ps)) ⊗ eval x (vanishing ps)
+    ≡ eval x (through ps (drop 1 vs)) ⊕ (getD vs 0 0 ⊕ eval p (through ps (drop 1 vs))) ⊘ eval p (vanishing ps) ⊗ eval x (vanishing ps)
 unfolding through
 through-next x p ps vs =
     let others : List ℕ = through ps (drop 1 vs) in
-    let k : ℕ = (getD vs 0 0 ⊕ eval p others) ⊗ inverse (eval p (vanishing ps)) in
+    let k : ℕ = (getD vs 0 0 ⊕ eval p others) ⊘ eval p (vanishing ps) in
     eval-plus x others (scale k (vanishing ps)) ∙ ap (_⊕_ (eval x others)) (eval-scale x k (vanishing ps))
 
 pub through-values : (ps vs : List ℕ) → Each Byte ps → Distinct ps → length vs ≡ length ps → Each Byte vs → values ps (through ps vs) ≡ vs
@@ -61,18 +63,17 @@ through-values (p ∷ ps) (v ∷ vs) b d n h = ap₂ _∷_ own (others ps (vanis
     own =
         let hq : Byte (eval p q) = eval-byte p q (through-byte ps vs) in
         let hw : Byte w = eval-byte p (vanishing ps) (vanishing-byte ps) in
-        let nw : w ≢ 0 = vanishing-nonzero p (b .0) ps (b .1) (d .0) in
-        let u : inverse w ⊗ w ≡ 1 = ⊗-comm (inverse w) w ∙ ⊗-inverse w (omega arith) hw in
+        let D : Divisors (p ∷ ps) = divisors (p ∷ ps) b d in
+        let nw : w ≢ 0 = D .nonzero w (D .of-step 0 (zero-lt-suc (length ps))) in
         through-next p p ps (v ∷ vs)
-        ∙ ap (_⊕_ (eval p q))
-        (⊗-assoc (v ⊕ eval p q) (inverse w) w ∙ ap (_⊗_ (v ⊕ eval p q)) u ∙ ⊗-one (v ⊕ eval p q) (⊕-byte v (eval p q) (h .0) hq) ∙ ⊕-comm v (eval p q))
+        ∙ ap (_⊕_ (eval p q)) (⊘-⊗ (v ⊕ eval p q) w nw (⊕-byte v (eval p q) (h .0) hq) hw .1 ∙ ⊕-comm v (eval p q))
         ∙ ⊕-twice (eval p q) v
 
     others : (xs : List ℕ) → Each (λ x. eval x (vanishing ps) ≡ 0) xs → map (λ x. eval x (through (p ∷ ps) (v ∷ vs))) xs ≡ map (λ x. eval x q) xs
     others [] z = refl
     others (x ∷ xs) z =
         ap₂ _∷_
-        (through-next x p ps (v ∷ vs) ∙ ap (λ (t : ℕ). eval x q ⊕ (v ⊕ eval p q) ⊗ inverse w ⊗ t) (z .0) ∙ ap (_⊕_ (eval x q)) (⊗-zero _) ∙ ⊕-zero (eval x q))
+        (through-next x p ps (v ∷ vs) ∙ ap (λ (t : ℕ). eval x q ⊕ (v ⊕ eval p q) ⊘ w ⊗ t) (z .0) ∙ ap (_⊕_ (eval x q)) (⊗-zero _) ∙ ⊕-zero (eval x q))
         (others xs (z .1))
 
 -- ---- with zeros up to z coefficients

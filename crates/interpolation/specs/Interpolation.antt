@@ -8,7 +8,7 @@ use lib.Dec.{ltb, leb, eqb}
 use lib.ListN.{length, getD, drop, replicate}
 use Rattle.lists.specs.Each.{Each, Distinct, Byte, distinct}
 use Rattle.lists.specs.Table.{tabulate}
-use Rattle.gf256.specs.Byte.{_⊕_, _⊗_, inverse}
+use Rattle.gf256.specs.Byte.{_⊕_, _⊘_}
 use Rattle.interpolation.specs.Polynomial.{eval, values, plus, scale, vanishing}
 
 -- the polynomial with one coefficient a point that has the values vs at the points: a point more adds the multiple of the product over
@@ -17,7 +17,7 @@ unfoldable pub through : List ℕ → List ℕ → List ℕ
 through [] vs = []
 through (p ∷ ps) vs =
     let others : List ℕ = through ps (drop 1 vs) in
-    plus others (scale ((getD vs 0 0 ⊕ eval p others) ⊗ inverse (eval p (vanishing ps))) (vanishing ps))
+    plus others (scale ((getD vs 0 0 ⊕ eval p others) ⊘ eval p (vanishing ps)) (vanishing ps))
 
 -- the same with zeros up to z coefficients, for at most z points
 unfoldable pub fitted : ℕ → List ℕ → List ℕ → List ℕ

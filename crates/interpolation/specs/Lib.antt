@@ -1,4 +1,5 @@
 pub mod Polynomial
 pub mod Interpolation
+pub mod Divisors
 pub mod Opening
 pub mod RowValue

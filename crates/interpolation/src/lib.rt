@@ -9,6 +9,7 @@ ghost use Rattle.gf256.specs.Lanes.{lanes};
 ghost use Rattle.interpolation.specs.Polynomial as polynomial;
 ghost use Rattle.interpolation.specs.Interpolation.{side, weight, basisTable};
 ghost use Rattle.interpolation.specs.RowValue.{nextEach};
+use gf256::InverseAnswer;
 use gf256::lanes::LANES;
 
 mod opening;
@@ -142,8 +143,20 @@ fn basis_row(product: [u8; SIDE + 1], points: &[u8], i: usize) -> [u8; SIDE]
         quotient[e] = above;
         value = above ^ gf256::mul_by_shifting(value, point);
     }
-    let factor = gf256::inverse(value);
+    // The points are distinct, so the value is not 0.
+    let InverseAnswer::Inverse(factor) = gf256::inverse(value) else {
+        return not_reached();
+    };
     lowest(gf256::lanes::scale_each(quotient, factor))
+}
+
+// Stands where the code never comes: nobody can show what it requires, so whoever calls it has to prove
+// that the place is not reached. Nothing comes back.
+fn not_reached() -> [u8; SIDE]
+    requires { ⌜ ⊥ ⌝ }
+    ensures { λ row. ⌜ ⊥ ⌝ }
+{
+    [0u8; SIDE]
 }
 
 // The first 16 of 64 bytes: a row of coefficients.

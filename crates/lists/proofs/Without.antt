@@ -3,12 +3,12 @@
 use mathlib.Core.Path.{_≡_, refl, sym, ap}
 use mathlib.Core.Logic.{_≢_}
 use mathlib.Core.List.{List, [], _∷_}
-use Prim.Native.Nat.{ℕ, zero, suc, _<_}
-use native.Mathlib.Nat.{le-of-suc-le-suc, not-suc-le-zero}
+use Prim.Native.Nat.{ℕ, zero, suc, _<_, suc-le-suc}
+use native.Mathlib.Nat.{le-of-suc-le-suc, zero-lt-suc, suc-inj, suc-ne-zero, not-suc-le-zero}
 use lib.ListN.{length, getD}
 use Rattle.lists.specs.Each.{Each, Distinct}
 use Rattle.lists.specs.Without.{without}
-use Rattle.lists.proofs.Each.{each-getD}
+use Rattle.lists.proofs.Each.{each-getD, each-of}
 
 module _ {ℓ} {A : Type ℓ} where
   pub length-without : (l : List A) (i : ℕ) → i < length l → suc (length (without i l)) ≡ length l
@@ -31,6 +31,14 @@ module _ {ℓ} {A : Type ℓ} where
   without-other P (x ∷ xs) zero (suc j) d b n h = each-getD P xs j d (le-of-suc-le-suc b) h
   without-other P (x ∷ xs) (suc i) zero d b n h = h .0
   without-other P (x ∷ xs) (suc i) (suc j) d b n h = without-other P xs i j d (le-of-suc-le-suc b) (λ e. n (ap suc e)) (h .1)
+
+  -- what every entry but one has, all have that are left
+  pub without-each : (P : A → Type 0) (l : List A) (i : ℕ) (d : A) → ((j : ℕ) → j < length l → j ≢ i → P (getD l j d)) → Each P (without i l)
+  unfolding without
+  without-each P [] i d h = tt
+  without-each P (x ∷ xs) zero d h = each-of P xs d (λ j b. h (suc j) (suc-le-suc b) (suc-ne-zero j))
+  without-each P (x ∷ xs) (suc i) d h =
+      (h 0 (zero-lt-suc (length xs)) (λ e. suc-ne-zero i (sym e)), without-each P xs i d (λ j b n. h (suc j) (suc-le-suc b) (λ e. n (suc-inj e))))
 
 -- where no number stands twice, the one left out is none of the others
 pub without-distinct : (l : List ℕ) (i : ℕ) → i < length l → Distinct l → Each (λ y. getD l i 0 ≢ y) (without i l)

@@ -9,4 +9,5 @@ pub mod PaddedRoundTrip
 pub mod PaddedCalls
 pub mod PoolCalls
 pub mod Range
+pub mod Divisors
 pub mod Starred

@@ -7,6 +7,7 @@ use mathlib.Core.List.{List, [], _∷_, map}
 use Prim.Native.Nat.{ℕ, _*_}
 use lib.ListN.{length, getD}
 use Rattle.lists.specs.Table.{tabulate, flat}
+use Rattle.gf256.specs.declared.InverseAnswer.the-variants.{Inverse}
 use Rattle.gf256.specs.Byte.{_⊗_, inverse}
 use Rattle.scheme.specs.Outcome.{accepted, refused}
 use Rattle.scheme.specs.BlockLength.{blockLength}
@@ -56,7 +57,7 @@ pub data Claim : Type 0 where
 -- What an output held before the call is of no account, so it is any list of the right length.
 abbrev pub Holds : Claim → Type 0
 Holds (product-is a b c) = a ⊗ b ≡ c
-Holds (inverse-is a b) = inverse a ≡ b
+Holds (inverse-is a b) = inverse a ≡ Inverse b
 Holds (accepts p m b) = checked (p .n) (p .r) (p .z) (p .counts) ≡ accepted (p .n ∷ p .r ∷ p .z ∷ m ∷ b ∷ [])
 Holds (refuses p number) = checked (p .n) (p .r) (p .z) (p .counts) ≡ refused number
 Holds (needs p m) = blockLength (p .z) (p .counts) ≡ m

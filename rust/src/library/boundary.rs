@@ -3,6 +3,12 @@
 use super::WEIGHTS;
 
 #[repr(C)]
+pub struct Gf256InverseAnswer {
+    pub exists: u64,
+    pub inverse: u64,
+}
+
+#[repr(C)]
 pub struct SharingScheme {
     pub refusal: u64,
     pub block: u64,
@@ -73,7 +79,7 @@ extern "C" {
     pub fn gf256_add(a: u8, b: u8) -> u8;
     pub fn gf256_mul(a: u8, b: u8) -> u8;
     pub fn gf256_mul_by_shifting(a: u8, b: u8) -> u8;
-    pub fn gf256_inverse(a: u8) -> u8;
+    pub fn gf256_inverse(a: u8) -> Gf256InverseAnswer;
     pub fn sharing_check(n: u8, r: u8, z: u8, counts: *const u8, length: usize) -> SharingScheme;
     pub fn sharing_check_default() -> SharingScheme;
     pub fn sharing_check_tried(n: u8, r: u8, z: u8, counts: *const u8, length: usize) -> SharingTriedScheme;

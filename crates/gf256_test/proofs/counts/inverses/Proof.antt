@@ -1,8 +1,6 @@
 -- `gf256_test::counts::inverses` is safe and ends. The invariant: no more are counted than bytes were taken. The measure is what is left of the bytes.
 -- Assumes nothing.
-use mathlib.Core.Logic.{⊎-elim}
 use Prim.Native.Nat.{_≤_, _-_}
-use native.Mathlib.Omega.{arith}
 use borrow.Author.Needs.{needs}
 use Rattle.gf256_test.proofs.counts.inverses.Statement.{statement}
 use Rattle.gf256_test.proofs.counts.inverses.Tie as tie
@@ -20,9 +18,8 @@ inverses-spec =
     (λ c. search needs)
     (λ c. search needs)
     (λ c κs. search needs)
-    (λ c κs. search needs)
     (λ c. search needs)
     (λ c. search needs)
     (λ c. search needs)
-    (λ c. ⊎-elim (λ w. omega arith) (λ w. omega arith) (c .if1 .came))
+    (λ c. search needs)
     (λ c. search needs))
