@@ -72,10 +72,16 @@ rule a h = at right inverses tt a h
 entry-right : (a : ℕ) → a ≢ 0 → a < 256 → (getD inverses a 0 < 256) × (a ⊗ getD inverses a 0 ≡ 1)
 unfolding right
 entry-right zero n h = absurd (n refl)
-entry-right (suc a) n h = (ltb→lt x 256 (both-left (ltb x 256) (eqb (suc a ⊗ x) 1) (rule (suc a) h)), eqb→eq (suc a ⊗ x) 1 (both-right (ltb x 256) (eqb (suc a ⊗ x) 1) (rule (suc a) h)))
+entry-right (suc a) n h = (ltb→lt x 256 (both-left small one (rule (suc a) h)), eqb→eq (suc a ⊗ x) 1 (both-right small one (rule (suc a) h)))
   where
     x : ℕ
     x = getD inverses (suc a) 0
+
+    small : Bool
+    small = ltb x 256
+
+    one : Bool
+    one = eqb (suc a ⊗ x) 1
 
 -- ---- the laws
 

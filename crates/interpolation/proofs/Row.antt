@@ -84,31 +84,30 @@ module _ (ps : List ℕ) (i : ℕ) (inside : i < length ps) (short : length ps �
             ∙ sym (ap (eval (getD ps i 0)) (drop-cons (others ps i) e 0 (omega (arith, o .within, others-length))));
       }
 
-  -- all divided: the value is that of the product over the other points, at point i
-  pub divided-value : (e : ℕ) (quotient : List ℕ) (above value : ℕ) → e ≤ 0 → Divided ps i e quotient above value → value ≡ eval (getD ps i 0) (others ps i)
-  divided-value e quotient above value z o =
-      let none : e ≡ 0 = omega arith in
-      rw none at (o .at-own)
+  -- all divided
+  module _ {e : ℕ} {quotient : List ℕ} {above value : ℕ} (d : distinct ps ≡ true) (bytes : Each Byte ps) (z : e ≤ 0) (o : Divided ps i e quotient above value) where
+    -- the value is that of the product over the other points, at point i
+    whole : value ≡ eval (getD ps i 0) (others ps i)
+    whole =
+        let none : e ≡ 0 = omega arith in
+        rw none at (o .at-own)
 
-  -- so it has an inverse
-  pub divided-invertible : (e : ℕ) (quotient : List ℕ) (above value : ℕ) → distinct ps ≡ true → Each Byte ps → e ≤ 0 → Divided ps i e quotient above value
-      → inverse value ≢ NoInverse
-  divided-invertible e quotient above value d bytes z o =
-      let D : Divisors ps = divisors ps bytes (distinct-true ps d) in
-      rw (divided-value e quotient above value z o) (D .invertible (eval (getD ps i 0) (others ps i)) (D .of-row i inside))
+    -- so it has an inverse
+    pub divided-invertible : inverse value ≢ NoInverse
+    divided-invertible =
+        let D : Divisors ps = divisors ps bytes (distinct-true ps d) in
+        rw whole (D .invertible (eval (getD ps i 0) (others ps i)) (D .of-row i inside))
 
-  -- and times that the quotient is the row
-  pub divided-row : (e : ℕ) (quotient : List ℕ) (above value factor : ℕ) → distinct ps ≡ true → Each Byte ps
-      → e ≤ 0 → Divided ps i e quotient above value → inverse value ≡ Inverse factor → lowest side (scaled factor quotient) ≡ tabulate side (weight ps i)
-  unfolding scaled
-  divided-row e quotient above value factor d bytes z o found =
-      let one : eval (getD ps i 0) (others ps i) ⊗ factor ≡ 1 =
-      rw (divided-value e quotient above value z o) at (⊗-inverse value factor found .1) in
-      tabulate-same side _ _
-      (λ k l.
-      getD-tabulate lanes (λ n. factor ⊗ getD quotient n 0) k 0 (omega arith)
-      ∙ ap (_⊗_ factor) (o .found .is k (omega arith) (omega arith))
-      ∙ sym
-      (weight-within ps i k inside short d
-      ∙ ap (λ (w : List ℕ). getD w k 0) (basis-formula ps bytes (distinct-true ps d) i factor inside one)
-      ∙ scale-at factor (others ps i) k))
+    -- and the quotient times that is the row
+    pub divided-row : (factor : ℕ) → inverse value ≡ Inverse factor → lowest side (scaled factor quotient) ≡ tabulate side (weight ps i)
+    unfolding scaled
+    divided-row factor found =
+        let one : eval (getD ps i 0) (others ps i) ⊗ factor ≡ 1 = rw whole at (⊗-inverse value factor found .1) in
+        tabulate-same side _ _
+        (λ k l.
+        getD-tabulate lanes (λ n. factor ⊗ getD quotient n 0) k 0 (omega arith)
+        ∙ ap (_⊗_ factor) (o .found .is k (omega arith) (omega arith))
+        ∙ sym
+        (weight-within ps i k inside short d
+        ∙ ap (λ (w : List ℕ). getD w k 0) (basis-formula ps bytes (distinct-true ps d) i factor inside one)
+        ∙ scale-at factor (others ps i) k))

@@ -1,5 +1,5 @@
 -- `interpolation::basis_row` meets its contract. The invariant is `Divided`: the quotient's coefficients from degree e on, and the value of these.
--- The measure is the degree.
+-- The measure is the degree. In the arm without an inverse ⊥ is shown: by `divisors` (proofs/Divisors.antt) the value is not 0.
 -- Assumes nothing.
 use mathlib.Core.Path.{sym, ap, _∙_}
 use Prim.Native.Nat.{ℕ}
@@ -47,7 +47,7 @@ basis-row-spec =
     let l = a .before .before in
     let s = l .before .before .before in
     let bytes : Each Byte (now (s .args .points)) = each-of Byte (now (s .args .points)) 0 (λ k b. l .before .shared-slice-known2 .given k .fits) in
-    divided-invertible _ _ (s .pre .0 .0) (s .pre .0 .1) _ _ _ _ (s .pre .0 .2) bytes (a .before .loop-test .left) (l .loop .inv) (sym (a .inverse .ensures) ∙ c .enum-told .given .1))
+    divided-invertible _ _ (s .pre .0 .0) (s .pre .0 .1) (s .pre .0 .2) bytes (a .before .loop-test .left) (l .loop .inv) (sym (a .inverse .ensures) ∙ c .enum-told .given .1))
     (λ c. search needs)
     (λ c κs. search needs)
     (λ c κs. search needs)
@@ -58,4 +58,4 @@ basis-row-spec =
     let s = l .before .before .before in
     let bytes : Each Byte (now (s .args .points)) = each-of Byte (now (s .args .points)) 0 (λ k b. l .before .shared-slice-known2 .given k .fits) in
     c .lowest .ensures ∙ ap (lowest side) (c .before .scale-each .ensures)
-    ∙ divided-row _ _ (s .pre .0 .0) (s .pre .0 .1) _ _ _ _ _ (s .pre .0 .2) bytes (a .before .loop-test .left) (l .loop .inv) (sym (a .inverse .ensures) ∙ f .factor .given .1)))
+    ∙ divided-row _ _ (s .pre .0 .0) (s .pre .0 .1) (s .pre .0 .2) bytes (a .before .loop-test .left) (l .loop .inv) _ (sym (a .inverse .ensures) ∙ f .factor .given .1)))
