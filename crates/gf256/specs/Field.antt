@@ -2,7 +2,7 @@
 -- Assumes nothing.
 use mathlib.Core.Path.{_≡_}
 use mathlib.Core.Logic.{_⊎_, _≢_}
-use Prim.Native.Nat.{ℕ, _<_}
+use Prim.Native.Nat.{ℕ}
 use Rattle.lists.specs.Each.{Byte}
 use Rattle.gf256.specs.Byte.{_⊕_, _⊗_, inverse, _⊘_}
 use Rattle.gf256.specs.declared.InverseAnswer.the-variants.{Inverse, NoInverse}

@@ -14,7 +14,7 @@ use borrow.Author.Tests.{eqb-true, eqb-false, eq-eqb, ne-eqb}
 use Rattle.lists.specs.Each.{Each, Distinct, Byte}
 use Rattle.lists.specs.Without.{without}
 use Rattle.lists.proofs.Tests.{cond-ind}
-use Rattle.lists.proofs.Each.{each-getD, each-of, each-map, each-replicate, each-tabulate, replicate-at, getD-map}
+use Rattle.lists.proofs.Each.{each-of, each-map, each-replicate, each-tabulate, replicate-at, getD-map}
 use Rattle.lists.proofs.Table.{length-tabulate, getD-tabulate, tabulate-is}
 use Rattle.lists.proofs.Without.{length-without, without-other}
 use Rattle.gf256.specs.Byte.{_⊕_, _⊗_}

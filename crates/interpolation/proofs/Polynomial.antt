@@ -1,7 +1,6 @@
 -- Laws of polynomials: values, lengths, bytes and single coefficients of sums, multiples and products. Each is an induction over the coefficients.
 -- Assumes nothing.
 use mathlib.Core.Path.{_≡_, refl, sym, ap, ap₂, _∙_}
-use mathlib.Core.Logic.{_≢_, _⊎_, inl, inr}
 use mathlib.Core.List.{List, [], _∷_, _++_}
 use Prim.Native.Nat.{ℕ, zero, suc, _≤_, _<_}
 use native.Mathlib.Nat.{le-of-suc-le-suc, not-suc-le-zero, suc-inj}
@@ -15,7 +14,7 @@ use Rattle.lists.specs.Without.{without}
 use Rattle.lists.proofs.Each.{each-getD}
 use Rattle.lists.proofs.Table.{length-tabulate}
 use Rattle.gf256.specs.Byte.{_⊕_, _⊗_, power}
-use Rattle.gf256.proofs.Laws.{⊕-assoc, ⊕-comm, ⊕-left-comm, zero-⊕, ⊕-zero, ⊕-self, ⊕-equal, ⊕-byte, ⊗-assoc, ⊗-comm, ⊗-left-comm, ⊗-⊕, ⊕-⊗, ⊗-zero, zero-⊗, one-⊗, ⊗-byte, no-zero-divisors}
+use Rattle.gf256.proofs.Laws.{⊕-assoc, ⊕-comm, ⊕-left-comm, zero-⊕, ⊕-zero, ⊕-self, ⊕-byte, ⊗-assoc, ⊗-comm, ⊗-left-comm, ⊗-⊕, ⊕-⊗, ⊗-zero, zero-⊗, one-⊗, ⊗-byte}
 use Rattle.interpolation.specs.Polynomial.{next, eval, plus, scale, linear, vanishing, sumTo}
 
 -- ---- values

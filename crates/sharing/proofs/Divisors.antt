@@ -11,7 +11,7 @@ use Rattle.interpolation.proofs.Laws.{divisors}
 use Rattle.scheme.proofs.Laws.{default-accepted, parties-distinct}
 use Rattle.staircase.specs.Parameters.{Parameters, AcceptedScheme, defaultParameters, point}
 use Rattle.staircase.proofs.Points.{points-bytes, points-distinct}
-use Rattle.sharing.specs.Divisors.{DivisorsOf, NeverByZero}
+use Rattle.sharing.specs.Divisors.{NeverByZero}
 
 apart : (p : Parameters) (parties : List ℕ) → Divisors (map (point p) parties) → (i j : ℕ) → i < length parties → j < length parties → i ≢ j
     → point p (getD parties i 0) ⊕ point p (getD parties j 0) ≢ 0

@@ -2,14 +2,12 @@
 -- The measure is the degree. In the arm without an inverse ⊥ is shown: by `divisors` (proofs/Divisors.antt) the value is not 0.
 -- Assumes nothing.
 use mathlib.Core.Path.{sym, ap, _∙_}
-use Prim.Native.Nat.{ℕ}
 use native.Mathlib.Omega.{arith}
 use denote.Ref.{now}
 use borrow.Author.Needs.{needs}
 use Rattle.lists.specs.Each.{Each, Byte}
 use Rattle.lists.proofs.Each.{each-of}
 use Rattle.gf256.specs.Byte.{_⊕_}
-use Rattle.gf256.specs.Lanes.{scaled}
 use Rattle.interpolation.specs.Polynomial.{lowest}
 use Rattle.interpolation.specs.Interpolation.{side}
 use Rattle.interpolation.proofs.Row.{Divided, divided-none, divided-more, divided-invertible, divided-row}
