@@ -333,8 +333,8 @@ typedef struct {
 } gf256_inverse_answer;
 
 /*
- * The byte whose product with a is 1. 0 has none, so no division by 0 goes on unseen: read exists before
- * inverse.
+ * The byte whose product with a is 1. 0 has none: exists is then 0, and so is inverse, which means nothing
+ * there. Look at exists first.
  */
 gf256_inverse_answer gf256_inverse(uint8_t a);
 

@@ -74,7 +74,7 @@ pub fn inverse(a: u8) -> Option<u8> {
     match exists {
         1 => Some(u8::try_from(inverse).expect("an inverse is a byte")),
         _ => {
-            assert_eq!((exists, inverse), (0, 0), "no inverse comes alone");
+            assert_eq!((exists, inverse), (0, 0), "where there is no inverse both are 0");
             None
         }
     }

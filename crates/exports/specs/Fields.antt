@@ -27,10 +27,11 @@ use Rattle.exports.specs.declared.padded.SharingPaddedAnswer.{SharingPad
 use Rattle.exports.specs.declared.SharingBasis.{SharingBasis}
 use Rattle.exports.specs.declared.tried.SharingTriedScheme.{SharingTriedScheme}
 
--- of the inverse: 1 and the inverse, or 0 and 0 where there is none
+-- of the inverse
 abbrev pub inverseFields : Gf256InverseAnswer → List ℕ
 inverseFields a = a .exists ∷ a .inverse ∷ []
 
+-- 1 and the inverse, or 0 and 0 where there is none
 abbrev pub invertedFields : InverseAnswer → List ℕ
 invertedFields (Inverse x) = 1 ∷ x ∷ []
 invertedFields NoInverse = 0 ∷ 0 ∷ []

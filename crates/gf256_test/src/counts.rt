@@ -38,7 +38,7 @@ fn inverted(a: u8) -> u64
     if gf256::mul(a, x) == 1 { 1 } else { 0 }
 }
 
-// The bytes, of all, that give 1 times their inverse.
+// How many of the 256 bytes give 1 times their inverse.
 pub(crate) fn inverses() -> u64 {
     let mut count: u64 = 0;
     let mut a: u64 = 0;

@@ -13,7 +13,7 @@ use Rattle.lists.specs.Each.{Each, Distinct, Byte}
 use Rattle.lists.specs.Without.{without}
 use Rattle.lists.proofs.Each.{each-getD, each-of}
 use Rattle.lists.proofs.Without.{without-other, without-each, without-distinct}
-use Rattle.gf256.specs.Byte.{_⊕_, _⊗_}
+use Rattle.gf256.specs.Byte.{_⊕_}
 use Rattle.gf256.proofs.Laws.{⊕-zero, ⊕-equal, ⊕-byte, ⊗-byte, ⊗-zero, no-zero-divisors, no-inverse}
 use Rattle.interpolation.specs.Polynomial.{next, eval, vanishing}
 use Rattle.interpolation.specs.Divisors.{Divisor, difference, product, one, Divisors}

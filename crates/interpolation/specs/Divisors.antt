@@ -1,5 +1,5 @@
--- What interpolation divides by: differences of two of the points, and products of such differences. Where no point stands twice none of them is 0, so
--- that nothing meets the case "no inverse" (document 02, g).
+-- What interpolation divides by: differences of two of the points, and products of such differences. Where the points are bytes and none stands twice
+-- no divisor is 0, so that nothing meets the case "no inverse" (document 02, g).
 -- Assumes nothing.
 use mathlib.Core.Logic.{_≢_}
 use mathlib.Core.List.{List}

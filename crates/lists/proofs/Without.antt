@@ -17,12 +17,6 @@ module _ {ℓ} {A : Type ℓ} where
   length-without (x ∷ xs) zero h = refl
   length-without (x ∷ xs) (suc i) h = ap suc (length-without xs i (le-of-suc-le-suc h))
 
-  pub each-without : (P : A → Type 0) (l : List A) (i : ℕ) → Each P l → Each P (without i l)
-  unfolding without
-  each-without P [] i h = tt
-  each-without P (x ∷ xs) zero h = h .1
-  each-without P (x ∷ xs) (suc i) h = (h .0, each-without P xs i (h .1))
-
   -- every entry but the one left out is still there
   pub without-other : (P : A → Type 0) (l : List A) (i j : ℕ) (d : A) → j < length l → j ≢ i → Each P (without i l) → P (getD l j d)
   unfolding without

@@ -1,4 +1,4 @@
-// The inverse of each byte; the entry of 0 is 0.
+// The inverse of each byte but 0, which has none: its entry is 0, and nothing reads it.
 pub const INVERSES: [u8; 256] = [
     0,
     1,
