@@ -21,10 +21,10 @@ pub record Field : Type 0 where
   -- 0 has no inverse, and it is the only byte that has none
   pub inverse-zero : inverse 0 ≡ NoInverse
   pub no-inverse : (a : ℕ) → Byte a → inverse a ≡ NoInverse → a ≡ 0
-  -- an inverse is a byte whose product is 1, and a byte whose product is 1 is the inverse
+  -- an inverse that is answered is a byte whose product with a is 1, and a byte whose product with a is 1 is answered
   pub ⊗-inverse : (a x : ℕ) → inverse a ≡ Inverse x → Byte x × (a ⊗ x ≡ 1)
   pub inverse-only : (a x : ℕ) → Byte a → Byte x → a ⊗ x ≡ 1 → inverse a ≡ Inverse x
-  -- the quotient by a byte that is not 0 times that byte is the dividend, and no other byte is
+  -- times the divisor, which is not 0, the quotient is the dividend, and no other byte is
   pub ⊘-⊗ : (a b : ℕ) → b ≢ 0 → Byte a → Byte b → Byte (a ⊘ b) × (a ⊘ b ⊗ b ≡ a)
   pub ⊘-only : (a b x : ℕ) → b ≢ 0 → Byte a → Byte b → Byte x → x ⊗ b ≡ a → x ≡ a ⊘ b
   pub no-zero-divisors : (a b : ℕ) → Byte a → Byte b → a ⊗ b ≡ 0 → (a ≡ 0) ⊎ (b ≡ 0)
