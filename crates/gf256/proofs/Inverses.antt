@@ -1,4 +1,4 @@
--- The inverse: it is one, it is the only one, only 0 has none, and no two bytes but 0 have the product 0; the quotient by a byte that is not 0.
+-- The inverse: it is one, it is the only one, only 0 has none, and no two bytes but 0 have the product 0.
 -- The table of 256 inverses is tested once, by computing; each entry's rule follows.
 -- Assumes nothing.
 use mathlib.Core.Path.{_≡_, refl, sym, ap, _∙_}
@@ -12,10 +12,10 @@ use lib.ListN.{getD}
 use borrow.Author.Tests.{eqb-true, eqb-false}
 use Rattle.gf256.specs.declared.InverseAnswer.{InverseAnswer}
 use Rattle.gf256.specs.declared.InverseAnswer.the-variants.{Inverse, NoInverse}
-use Rattle.gf256.specs.Byte.{_⊕_, product, cut, reduce, _⊗_, inverseBelow, inverse, timesAnswer, _⊘_}
+use Rattle.gf256.specs.Byte.{_⊕_, product, cut, reduce, _⊗_, inverseBelow, inverse}
 use Rattle.lists.proofs.Tests.{both-left, both-right}
 use Rattle.lists.proofs.Computed.{at}
-use Rattle.gf256.proofs.Ring.{⊗-byte, ⊗-comm, ⊗-assoc, ⊗-zero, zero-⊗, ⊗-one, one-⊗}
+use Rattle.gf256.proofs.Ring.{⊗-comm, ⊗-assoc, ⊗-zero, zero-⊗, one-⊗}
 
 -- ---- the search finds an inverse where there is one
 
@@ -128,18 +128,3 @@ no-inverse (suc a) h e =
 pub no-zero-divisors : (a b : ℕ) → a < 256 → b < 256 → a ⊗ b ≡ 0 → (a ≡ 0) ⊎ (b ≡ 0)
 no-zero-divisors zero b h hb e = inl refl
 no-zero-divisors (suc a) b h hb e = inr (⊗-cancel (suc a) b 0 (suc-ne-zero a) h hb (lit< tt) (e ∙ sym (⊗-zero (suc a))))
-
--- ---- the quotient
-
-pub ⊘-⊗ : (a b : ℕ) → b ≢ 0 → a < 256 → b < 256 → (a ⊘ b < 256) × (a ⊘ b ⊗ b ≡ a)
-unfolding _⊘_
-⊘-⊗ a b n ha hb = of (inverse b) refl
-  where
-    of : (answer : InverseAnswer) → inverse b ≡ answer → (timesAnswer a answer < 256) × (timesAnswer a answer ⊗ b ≡ a)
-    of (Inverse x) e = (⊗-byte a x, ⊗-assoc a x b ∙ ap (_⊗_ a) (⊗-comm x b ∙ ⊗-inverse b x e .1) ∙ ⊗-one a ha)
-    of NoInverse e = absurd (n (no-inverse b hb e))
-
-pub ⊘-only : (a b x : ℕ) → b ≢ 0 → a < 256 → b < 256 → x < 256 → x ⊗ b ≡ a → x ≡ a ⊘ b
-⊘-only a b x n ha hb hx e =
-    let q = ⊘-⊗ a b n ha hb in
-    ⊗-cancel b x (a ⊘ b) n hb hx (q .0) (⊗-comm b x ∙ e ∙ sym (⊗-comm b (a ⊘ b) ∙ q .1))

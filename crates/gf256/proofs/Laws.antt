@@ -3,7 +3,8 @@
 use Rattle.gf256.specs.Field.{Field}
 pub use Rattle.gf256.proofs.Digits.{⊕-assoc, ⊕-left-comm, interchange}
 pub use Rattle.gf256.proofs.Ring.{⊕-comm, zero-⊕, ⊕-zero, ⊕-self, ⊕-twice, ⊕-back, ⊕-equal, ⊕-byte, ⊗-byte, ⊗-assoc, ⊗-comm, ⊗-left-comm, ⊗-⊕, ⊕-⊗, ⊗-zero, zero-⊗, ⊗-one, one-⊗, ⊗-by-digit}
-pub use Rattle.gf256.proofs.Inverses.{inverse-zero, no-inverse, ⊗-inverse, inverse-only, ⊗-cancel, no-zero-divisors, ⊘-⊗, ⊘-only}
+pub use Rattle.gf256.proofs.Inverses.{inverse-zero, no-inverse, ⊗-inverse, inverse-only, ⊗-cancel, no-zero-divisors}
+pub use Rattle.gf256.proofs.Quotients.{⊘-⊗, ⊘-only}
 pub use Rattle.gf256.proofs.Powers.{power-byte, power-add}
 
 pub field : Field

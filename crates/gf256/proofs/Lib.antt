@@ -3,6 +3,7 @@ mod Ring
 pub mod Polynomials
 mod Inverses
 mod Powers
+mod Quotients
 pub mod Shifting
 pub mod Laws
 pub mod Examples

@@ -56,11 +56,14 @@ inverseBelow (suc n) a =
 unfoldable pub inverse : ℕ → InverseAnswer
 inverse a = inverseBelow 256 a
 
--- a number times what is answered for an inverse
-abbrev pub timesAnswer : ℕ → InverseAnswer → ℕ
-timesAnswer a (Inverse x) = a ⊗ x
-timesAnswer a NoInverse = 0
+-- the product of n squares, of b², b⁴, b⁸ and so on
+unfoldable pub squares : ℕ → ℕ → ℕ
+squares zero b = 1
+squares (suc n) b =
+    let square : ℕ = b ⊗ b in
+    square ⊗ squares n square
 
--- the quotient of two bytes. Its law, `⊘-⊗` of Field.antt, asks for a divisor b that is not 0; no statement says what stands here for a division by 0
+-- the quotient of two bytes: a times the power 254 of b, which is that of 2 + 4 + .. + 128. The power 255 of every byte but 0 is 1, so times b this is a.
+-- Its laws, `⊘-⊗` and `⊘-only` of Field.antt, ask for a divisor b that is not 0; no statement says what stands here for a division by 0
 unfoldable pub _⊘_ : ℕ → ℕ → ℕ
-a ⊘ b = timesAnswer a (inverse b)
+a ⊘ b = a ⊗ squares 7 b
