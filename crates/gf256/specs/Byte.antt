@@ -63,7 +63,7 @@ squares (suc n) b =
     let square : ℕ = b ⊗ b in
     square ⊗ squares n square
 
--- the quotient of two bytes: a times the power 254 of b, which is that of 2 + 4 + .. + 128. The power 255 of every byte but 0 is 1, so times b this is a.
--- Its laws, `⊘-⊗` and `⊘-only` of Field.antt, ask for a divisor b that is not 0; no statement says what stands here for a division by 0
+-- the quotient of two bytes: a times b to the power 254, which is 2 + 4 + .. + 128. To the power 255 every byte but 0 is 1, so this times b is a.
+-- Its laws, `⊘-⊗` and `⊘-only` of Field.antt, ask for a divisor b that is not 0; no statement says what a division by 0 gives
 unfoldable pub _⊘_ : ℕ → ℕ → ℕ
 a ⊘ b = a ⊗ squares 7 b
