@@ -1,14 +1,14 @@
 -- The quotient by a byte that is not 0. Every such byte is a power of 3, whose power 255 is 1; so its own power 255 is 1 too, and its power 254, which
 -- the definition makes of seven squares, is its inverse.
 -- Assumes nothing.
-use mathlib.Core.Path.{_≡_, refl, sym, ap, ap₂, _∙_}
+use mathlib.Core.Path.{_≡_, refl, sym, ap, _∙_}
 use mathlib.Core.Logic.{_≢_}
 use Prim.Native.Nat.{ℕ, zero, suc, _+_, _*_, _<_}
 use native.Mathlib.Nat.{mul-zero, mul-suc, mul-comm, add-comm}
 use native.Mathlib.Omega.{arith}
 use lib.Dec.{lit<}
 use lib.ListN.{getD}
-use Rattle.gf256.specs.Byte.{_⊗_, power, squares, _⊘_}
+use Rattle.gf256.specs.Byte.{_⊗_, power, squaresProduct, _⊘_}
 use Rattle.gf256.proofs.Ring.{⊗-byte, ⊗-comm, ⊗-assoc, ⊗-one, one-⊗}
 use Rattle.gf256.proofs.Inverses.{⊗-cancel}
 use Rattle.gf256.proofs.Powers.{powers, logarithms, power-byte, power-add, power-entry, power-of-logarithm}
@@ -47,8 +47,8 @@ power-two : (b : ℕ) → b < 256 → b ⊗ b ≡ power b 2
 unfolding power
 power-two b h = ap (_⊗_ b) (sym (⊗-one b h))
 
-squares-power : (n b : ℕ) → b < 256 → squares n b ≡ power b (twos n)
-unfolding squares power twos
+squares-power : (n b : ℕ) → b < 256 → squaresProduct n b ≡ power b (twos n)
+unfolding squaresProduct power twos
 squares-power zero b h = refl
 squares-power (suc n) b h =
     ap (_⊗_ (b ⊗ b)) (squares-power n (b ⊗ b) (⊗-byte b b))
@@ -60,9 +60,9 @@ squares-power (suc n) b h =
 pub ⊘-⊗ : (a b : ℕ) → b ≢ 0 → a < 256 → b < 256 → (a ⊘ b < 256) × (a ⊘ b ⊗ b ≡ a)
 unfolding _⊘_ twos power
 ⊘-⊗ a b n ha hb = (
-  ⊗-byte a (squares 7 b),
-  ⊗-assoc a (squares 7 b) b
-      ∙ ap (_⊗_ a) (⊗-comm (squares 7 b) b ∙ ap (_⊗_ b) (squares-power 7 b hb) ∙ power-255 b n hb)
+  ⊗-byte a (squaresProduct 7 b),
+  ⊗-assoc a (squaresProduct 7 b) b
+      ∙ ap (_⊗_ a) (⊗-comm (squaresProduct 7 b) b ∙ ap (_⊗_ b) (squares-power 7 b hb) ∙ power-255 b n hb)
       ∙ ⊗-one a ha,
 )
 

@@ -57,13 +57,13 @@ unfoldable pub inverse : ℕ → InverseAnswer
 inverse a = inverseBelow 256 a
 
 -- the product of n squares, of b², b⁴, b⁸ and so on
-unfoldable pub squares : ℕ → ℕ → ℕ
-squares zero b = 1
-squares (suc n) b =
+unfoldable pub squaresProduct : ℕ → ℕ → ℕ
+squaresProduct zero b = 1
+squaresProduct (suc n) b =
     let square : ℕ = b ⊗ b in
-    square ⊗ squares n square
+    square ⊗ squaresProduct n square
 
 -- the quotient of two bytes: a times b to the power 254, which is 2 + 4 + .. + 128. To the power 255 every byte but 0 is 1, so this times b is a.
 -- Its laws, `⊘-⊗` and `⊘-only` of Field.antt, ask for a divisor b that is not 0; no statement says what a division by 0 gives
 unfoldable pub _⊘_ : ℕ → ℕ → ℕ
-a ⊘ b = a ⊗ squares 7 b
+a ⊘ b = a ⊗ squaresProduct 7 b

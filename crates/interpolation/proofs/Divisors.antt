@@ -1,5 +1,5 @@
--- What interpolation divides by is not 0 where no point stands twice: `divisors`. It is cited where the code takes an inverse out of its answer
--- (proofs/basis_row/Proof.antt), where the definition's quotient is used (proofs/Through.antt), and for accepted parties (sharing/proofs/Divisors.antt).
+-- What interpolation divides by is not 0 where no point stands twice: `divisors`. It is cited for the arm of `basis_row` in which there is no inverse
+-- (`divided-invertible` in proofs/Row.antt), where the definition's quotient is used (proofs/Through.antt), and for accepted parties (in sharing).
 -- Assumes nothing.
 use mathlib.Core.Path.{sym}
 use mathlib.Core.Logic.{_≢_, ⊎-elim}

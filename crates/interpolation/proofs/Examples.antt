@@ -7,7 +7,7 @@ use lib.ListN.{replicate}
 use Rattle.lists.specs.Each.{occurs, distinct}
 use Rattle.lists.specs.Table.{tabulate}
 use Rattle.gf256.specs.Byte as byte
-use Rattle.gf256.specs.Byte.{_⊕_, _⊗_, cut, reduce, squares, _⊘_}
+use Rattle.gf256.specs.Byte.{_⊕_, _⊗_, cut, reduce, squaresProduct, _⊘_}
 use Rattle.interpolation.specs.Polynomial.{next, eval, plus, scale, linear, vanishing}
 use Rattle.interpolation.specs.Interpolation.{through, unit, basis, weight}
 use Rattle.interpolation.specs.Opening.{remainder, openingWeight, openingTable}
@@ -29,5 +29,5 @@ pub examples :
     × (openingTable [] 3 ≡ replicate 16 (replicate 16 0))
     × (openingTable (1 ∷ 1 ∷ []) 4
     ≡ replicate 2 (replicate 16 0) ++ (1 ∷ replicate 15 0) ∷ (0 ∷ 1 ∷ replicate 14 0) ∷ replicate 12 (replicate 16 0))
-unfolding _⊕_ _⊗_ byte.product reduce cut squares _⊘_ occurs distinct tabulate next eval plus scale linear vanishing through unit basis weight remainder openingWeight openingTable
+unfolding _⊕_ _⊗_ byte.product reduce cut squaresProduct _⊘_ occurs distinct tabulate next eval plus scale linear vanishing through unit basis weight remainder openingWeight openingTable
 examples = (refl, refl, refl, refl, refl, refl, refl, refl, refl)

@@ -8,7 +8,7 @@ use Rattle.lists.specs.Each.{occurs, allIn, distinct}
 use Rattle.lists.specs.FirstFrom.{firstFrom}
 use Rattle.lists.specs.Table.{tabulate, joined, piece}
 use Rattle.gf256.specs.Byte as byte
-use Rattle.gf256.specs.Byte.{_⊕_, _⊗_, cut, reduce, squares, _⊘_}
+use Rattle.gf256.specs.Byte.{_⊕_, _⊗_, cut, reduce, squaresProduct, _⊘_}
 use Rattle.interpolation.specs.Polynomial.{next, eval, plus, scale, linear, above, vanishing}
 use Rattle.interpolation.specs.Interpolation.{through, fitted, unit, basis, weight, basisTable}
 use Rattle.scheme.specs.Outcome.{accepted, refused, firstOf, answer}
@@ -49,7 +49,7 @@ pub examples :
     × (openedString schemeA (1 ∷ 2 ∷ 3 ∷ []) 1 (11 ∷ 31 ∷ 29 ∷ []) ≡ 5 ∷ 7 ∷ [])
     × (reconstructAnswer schemeA 1 (1 ∷ 2 ∷ 3 ∷ []) 3 1 ≡ accepted (3 ∷ []))
     × (reconstructOutput schemeA 1 (1 ∷ 2 ∷ 3 ∷ []) (11 ∷ 31 ∷ 29 ∷ []) (0 ∷ []) ≡ 5 ∷ [])
-unfolding _⊕_ _⊗_ byte.product reduce cut squares _⊘_ next eval plus scale linear above vanishing through fitted unit basis weight basisTable divides firstFrom commonMultiple blockLength falls partiesRefused thresholdsRefused countsRefused blockRefused firstOf answer refusal rowsOfCount rowsOfBlock blockCount rises within readersRefused occurs distinct tabulate joined readings openedBlocks point groupOf countOf originIn origin upperPart lowerPart placed openedFrom openedBlock prefixBytes openedString basisRefusal basisAnswer basisOf reconstructRefusal reconstructAnswer reconstructOutput
+unfolding _⊕_ _⊗_ byte.product reduce cut squaresProduct _⊘_ next eval plus scale linear above vanishing through fitted unit basis weight basisTable divides firstFrom commonMultiple blockLength falls partiesRefused thresholdsRefused countsRefused blockRefused firstOf answer refusal rowsOfCount rowsOfBlock blockCount rises within readersRefused occurs distinct tabulate joined readings openedBlocks point groupOf countOf originIn origin upperPart lowerPart placed openedFrom openedBlock prefixBytes openedString basisRefusal basisAnswer basisOf reconstructRefusal reconstructAnswer reconstructOutput
 examples = (refl, refl, refl, refl, refl, refl, refl, refl, refl, refl, refl, refl, refl, refl)
 
 pub range-examples :
@@ -73,7 +73,7 @@ pub range-examples :
     -- of two blocks a row is taken whole
     × (rangeAnswer schemeA 4 3 1 (1 ∷ 3 ∷ []) 8 1 ≡ accepted (4 ∷ []))
     × (rangeAnswer schemeA 4 1 2 (1 ∷ 3 ∷ []) 8 2 ≡ accepted (8 ∷ []))
-unfolding _⊕_ _⊗_ byte.product reduce cut squares _⊘_ next eval plus scale linear above vanishing through fitted unit basis weight divides firstFrom commonMultiple blockLength falls partiesRefused thresholdsRefused countsRefused blockRefused firstOf answer refusal rowsOfCount rowsOfBlock blockCount rises within readersRefused occurs allIn distinct tabulate joined readings openedBlocks point groupOf countOf originIn origin upperPart lowerPart placed openedFrom openedBlock prefixBytes openedString groupNumber rowsBefore groupRows groupsDown readingOrder wantedPlaces placesOf placesBy rowsTaken rangeRefusal rangeAnswer rangeOutput
+unfolding _⊕_ _⊗_ byte.product reduce cut squaresProduct _⊘_ next eval plus scale linear above vanishing through fitted unit basis weight divides firstFrom commonMultiple blockLength falls partiesRefused thresholdsRefused countsRefused blockRefused firstOf answer refusal rowsOfCount rowsOfBlock blockCount rises within readersRefused occurs allIn distinct tabulate joined readings openedBlocks point groupOf countOf originIn origin upperPart lowerPart placed openedFrom openedBlock prefixBytes openedString groupNumber rowsBefore groupRows groupsDown readingOrder wantedPlaces placesOf placesBy rowsTaken rangeRefusal rangeAnswer rangeOutput
 range-examples = (refl, refl, refl, refl, refl, refl, refl, refl, refl, refl, refl, refl, refl, refl, refl, refl)
 
 pub padded-examples :
@@ -102,5 +102,5 @@ pub padded-examples :
     × (reconstructPaddedAnswer schemeA (1 ∷ 2 ∷ 3 ∷ []) (140 ∷ 4 ∷ 53 ∷ 4 ∷ 176 ∷ 4 ∷ []) 4 ≡ refused 11)
     -- with two keys a row
     × (reconstructPaddedAnswer (parameters 4 1 2 (4 ∷ 3 ∷ [])) (1 ∷ 2 ∷ 3 ∷ 4 ∷ []) (136 ∷ 121 ∷ 213 ∷ 4 ∷ []) 2 ≡ accepted (4 ∷ 1 ∷ []))
-unfolding _⊕_ _⊗_ byte.product reduce cut squares _⊘_ next eval plus scale linear above vanishing through fitted unit basis weight divides firstFrom commonMultiple blockLength falls partiesRefused thresholdsRefused countsRefused blockRefused firstOf answer refusal rowsOfCount rowsOfBlock blockCount rises within readersRefused occurs distinct tabulate joined readings openedBlocks point groupOf countOf originIn origin upperPart lowerPart placed openedFrom openedBlock prefixBytes openedString piece paddedCount blocksHeld lastNonzero endPlace endMissing endRefused blocksSent openedPadded reconstructPaddedRefusal reconstructPaddedAnswer reconstructPaddedOutput
+unfolding _⊕_ _⊗_ byte.product reduce cut squaresProduct _⊘_ next eval plus scale linear above vanishing through fitted unit basis weight divides firstFrom commonMultiple blockLength falls partiesRefused thresholdsRefused countsRefused blockRefused firstOf answer refusal rowsOfCount rowsOfBlock blockCount rises within readersRefused occurs distinct tabulate joined readings openedBlocks point groupOf countOf originIn origin upperPart lowerPart placed openedFrom openedBlock prefixBytes openedString piece paddedCount blocksHeld lastNonzero endPlace endMissing endRefused blocksSent openedPadded reconstructPaddedRefusal reconstructPaddedAnswer reconstructPaddedOutput
 padded-examples = (refl, refl, refl, refl, refl, refl, refl, refl, refl, refl, refl, refl, refl, refl, refl, refl, refl, refl, refl)

@@ -9,7 +9,7 @@ use lib.ListN.{length, getD, take}
 use Rattle.lists.specs.Each.{Each, occurs}
 use Rattle.lists.specs.Table.{tabulate, joined, piece, pieces, flat}
 use Rattle.gf256.specs.Byte as gf256
-use Rattle.gf256.specs.Byte.{_⊕_, _⊗_, cut, reduce, inverseBelow, inverse, squares, _⊘_}
+use Rattle.gf256.specs.Byte.{_⊕_, _⊗_, cut, reduce, inverseBelow, inverse, squaresProduct, _⊘_}
 use Rattle.interpolation.specs.Polynomial as polynomial
 use Rattle.interpolation.specs.Polynomial.{next, eval, plus, scale, linear, above}
 use Rattle.interpolation.specs.Interpolation.{through, fitted}
@@ -62,7 +62,7 @@ _also_ : {A B : Type 0} → A → B → A × B
 a also b = (a, b)
 
 pub starred-hold : Each (Each Holds) starred
-unfolding _⊕_ _⊗_ gf256.product reduce cut inverse inverseBelow squares _⊘_ next eval plus scale linear above polynomial.vanishing through fitted divides firstFrom commonMultiple blockLength falls partiesRefused thresholdsRefused countsRefused blockRefused refusal rowsOfCount rowsOfBlock blockCount checked occurs tabulate joined piece pieces flat padded shareOfBlocks sharesOfBlocks readings openedBlocks point rowOf keyed copied withGroups rowsOf groupOf countOf originIn origin coefficient blockRow upperPart lowerPart placed openedFrom openedBlock staircase shares partOf firstOf answer rises within readersRefused prefixRefusal prefixLength prefixOf splitRefusal splitAnswer prefixBytes reconstructRefusal reconstructAnswer openedString
+unfolding _⊕_ _⊗_ gf256.product reduce cut inverse inverseBelow squaresProduct _⊘_ next eval plus scale linear above polynomial.vanishing through fitted divides firstFrom commonMultiple blockLength falls partiesRefused thresholdsRefused countsRefused blockRefused refusal rowsOfCount rowsOfBlock blockCount checked occurs tabulate joined piece pieces flat padded shareOfBlocks sharesOfBlocks readings openedBlocks point rowOf keyed copied withGroups rowsOf groupOf countOf originIn origin coefficient blockRow upperPart lowerPart placed openedFrom openedBlock staircase shares partOf firstOf answer rises within readersRefused prefixRefusal prefixLength prefixOf splitRefusal splitAnswer prefixBytes reconstructRefusal reconstructAnswer openedString
 starred-hold =
     (refl, (refl, tt))
     also (refl, tt)
