@@ -1,9 +1,11 @@
 -- The structs that the C boundary answers, field by field: the refusal's number, 0 when accepted, then the values, 0 on a refusal but for the number
--- tried, which stands beside refusal 4 too.
+-- tried, which stands beside refusal 4 too, and the party named, which stands beside refusal 18 alone.
 -- Assumes nothing.
 use mathlib.Core.Path.{_≡_}
+use mathlib.Core.Bool.{cond}
 use mathlib.Core.List.{List, [], _∷_}
 use Prim.Native.Nat.{ℕ, _*_, _/_, _%_}
+use lib.Dec.{eqb}
 use lib.ListN.{length, getD}
 use Rattle.gf256.specs.declared.InverseAnswer.{InverseAnswer}
 use Rattle.gf256.specs.declared.InverseAnswer.the-variants.{Inverse, NoInverse}
@@ -18,12 +20,14 @@ use Rattle.key_pool.specs.declared.KeyPool.{KeyPool}
 use Rattle.key_pool.specs.Pool.{poolAnswer, poolOutput, poolAfter}
 use Rattle.reader.specs.Basis.{basisRefusal, basisOf}
 use Rattle.reader.specs.Range.{rangeAnswer, rangeOutput}
+use Rattle.reader.specs.Rebuild.{rebuildAnswer, rebuildOutput}
 use Rattle.reader.specs.Reconstruct.{reconstructAnswer, reconstructOutput}
 use Rattle.reader.specs.ReconstructPadded.{reconstructPaddedAnswer, reconstructPaddedOutput}
 use Rattle.exports.specs.declared.Gf256InverseAnswer.{Gf256InverseAnswer}
 use Rattle.exports.specs.declared.SharingScheme.{SharingScheme}
 use Rattle.exports.specs.declared.SharingAnswer.{SharingAnswer}
 use Rattle.exports.specs.declared.padded.SharingPaddedAnswer.{SharingPaddedAnswer}
+use Rattle.exports.specs.declared.rebuild.SharingRebuildAnswer.{SharingRebuildAnswer}
 use Rattle.exports.specs.declared.SharingBasis.{SharingBasis}
 use Rattle.exports.specs.declared.tried.SharingTriedScheme.{SharingTriedScheme}
 
@@ -65,6 +69,14 @@ paddedFields a = a .refusal ∷ a .used ∷ a .length ∷ []
 abbrev pub openedFields : Outcome → List ℕ
 openedFields o = o .number ∷ getD (o .values) 0 0 ∷ getD (o .values) 1 0 ∷ []
 
+-- of the rebuilding: in how many bytes the held copy differs, and the party named
+abbrev pub rebuildFields : SharingRebuildAnswer → List ℕ
+rebuildFields a = a .refusal ∷ a .differing ∷ a .party ∷ []
+
+-- the one value of its answer is the number of differing bytes where it is accepted, and the party where it is refused
+abbrev pub rebuiltFields : Outcome → List ℕ
+rebuiltFields o = cond (eqb (o .number) 0) (0 ∷ getD (o .values) 0 0 ∷ 0 ∷ []) (o .number ∷ 0 ∷ getD (o .values) 0 0 ∷ [])
+
 -- a table of 16 rows of 16 bytes, row after row
 unfoldable pub flattened : List (List ℕ) → List ℕ
 flattened table = tabulate (side * side) (λ k. getD (getD table (k / side) []) (k % side) 0)
@@ -93,6 +105,12 @@ abbrev pub ReconstructPaddedFields : Parameters → List ℕ → List ℕ → Li
 ReconstructPaddedFields p parties prefixes before a after =
     (paddedFields a ≡ openedFields (reconstructPaddedAnswer p parties prefixes (length before)))
     × (after ≡ reconstructPaddedOutput p parties prefixes before)
+
+-- a share rebuilt
+abbrev pub RebuildFields : Parameters → List ℕ → List ℕ → ℕ → List ℕ → List ℕ → SharingRebuildAnswer → List ℕ → Type 0
+RebuildFields p parties shares wanted held before a after =
+    (rebuildFields a ≡ rebuiltFields (rebuildAnswer p parties shares wanted held (length before)))
+    × (after ≡ rebuildOutput p parties shares wanted (length held) before)
 
 -- a split from a key pool, in either form of message, with the pool's record after it
 abbrev pub PoolSplitFields : Form → Parameters → List ℕ → List ℕ → KeyPool → List ℕ → SharingAnswer → List ℕ → KeyPool → Type 0

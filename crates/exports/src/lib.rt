@@ -1,6 +1,6 @@
 // The C boundary. A slice is a pointer and a length; an answer is a struct whose `refusal` is 0 when
 // the call is accepted. Those on padded messages stand in `padded`, those on a pool of keys in `pool`, the opener for
-// a range in `range`, the check with the number tried in `tried`.
+// a range in `range`, the rebuilding of a share in `rebuild`, the check with the number tried in `tried`.
 ghost use mathlib.Core.Path.{_≡_};
 ghost use Rattle.gf256.specs.Byte.{_⊕_, _⊗_, inverse};
 ghost use Rattle.scheme.specs.Limits.{defaultN, defaultR, defaultZ, defaultCounts};
@@ -18,6 +18,7 @@ use sharing::Answer;
 mod padded;
 mod pool;
 mod range;
+mod rebuild;
 mod tried;
 
 #[repr(C)]

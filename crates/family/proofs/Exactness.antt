@@ -77,13 +77,13 @@ module _ (F : Family) (parties : List ℕ) (rows : ℕ) (few : rows ≤ F .rows)
 
 module _ (F : Family) (parties : List ℕ) (rows known : ℕ) (opened openedKeys : (ℕ → ℕ → ℕ) → List ℕ) (few : rows ≤ F .rows)
     (E : BlockExact F parties rows known opened openedKeys) (N : ℕ) where
-  abbrev held : List ℕ → ℕ → ℕ → ℕ → ℕ
+  abbrev pub held : List ℕ → ℕ → ℕ → ℕ → ℕ
   held = readings rows N
 
-  abbrev keysFor : List ℕ → List ℕ
+  abbrev pub keysFor : List ℕ → List ℕ
   keysFor prefixes = joined N (λ t. openedKeys (held prefixes t))
 
-  opened-has : (prefixes : List ℕ) → Bytes (length parties * (rows * N)) prefixes → (t : ℕ) → t < N
+  pub opened-has : (prefixes : List ℕ) → Bytes (length parties * (rows * N)) prefixes → (t : ℕ) → t < N
       → HasAt F parties rows few N prefixes (openedBlocks rows opened N prefixes) (keysFor prefixes) t
   unfolding openedBlocks
   opened-has prefixes h t ht j a hj ha =

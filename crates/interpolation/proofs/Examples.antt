@@ -1,5 +1,5 @@
 -- Worked examples of the weights of an opening, by computing: the remainders at three sets of points, worked out by solving for the polynomial that has
--- at each point p the value of p to the power; a table; and those of no points and of two equal ones.
+-- at each point p the value of p to the power; a table; those of no points and of two equal ones; and the weights of a value.
 -- Assumes nothing.
 use mathlib.Core.Path.{_≡_, refl}
 use mathlib.Core.List.{[], _∷_, _++_}
@@ -10,7 +10,7 @@ use Rattle.gf256.specs.Byte as byte
 use Rattle.gf256.specs.Byte.{_⊕_, _⊗_, cut, reduce, squaresProduct, _⊘_}
 use Rattle.interpolation.specs.Polynomial.{next, eval, plus, scale, linear, vanishing}
 use Rattle.interpolation.specs.Interpolation.{through, unit, basis, weight}
-use Rattle.interpolation.specs.Opening.{remainder, openingWeight, openingTable}
+use Rattle.interpolation.specs.Opening.{remainder, openingWeight, openingTable, valueWeight}
 
 pub examples :
     -- the powers 3, 4 and 5 of x at 1, 2, 3
@@ -29,5 +29,8 @@ pub examples :
     × (openingTable [] 3 ≡ replicate 16 (replicate 16 0))
     × (openingTable (1 ∷ 1 ∷ []) 4
     ≡ replicate 2 (replicate 16 0) ++ (1 ∷ replicate 15 0) ∷ (0 ∷ 1 ∷ replicate 14 0) ∷ replicate 12 (replicate 16 0))
-unfolding _⊕_ _⊗_ byte.product reduce cut squaresProduct _⊘_ occurs distinct tabulate next eval plus scale linear vanishing through unit basis weight remainder openingWeight openingTable
-examples = (refl, refl, refl, refl, refl, refl, refl, refl, refl)
+    -- the value at 3 of a row of three coefficients read at 1 and 2, worked out by hand: 1 / 3 and 2 / 3, since 3 + 2 is 1, 3 + 1 is 2 and 1 + 2 is 3;
+    -- and of the coefficient of degree 2, (3 + 1) (3 + 2)
+    × (tabulate 3 (valueWeight (openingTable (1 ∷ 2 ∷ []) 3) 2 3) ≡ 246 ∷ 247 ∷ 2 ∷ [])
+unfolding _⊕_ _⊗_ byte.product byte.power reduce cut squaresProduct _⊘_ occurs distinct tabulate next eval plus scale linear vanishing through unit basis weight remainder openingWeight openingTable valueWeight
+examples = (refl, refl, refl, refl, refl, refl, refl, refl, refl, refl)

@@ -150,10 +150,12 @@ combined-at ps v (suc n) e =
     plus-at (combined (length ps) ps v n) (scale (v n) (basis ps n)) e
     ∙ ap₂ _⊕_ (combined-at ps v n e) (scale-at (v n) (basis ps n) e ∙ ⊗-comm (v n) (getD (basis ps n) e 0))
 
--- each coefficient is the sum over the points of the basis' coefficient times the value there
-pub interpolate-back : (ps cs : List ℕ) → Each Byte ps → Distinct ps → length cs ≡ length ps → Each Byte cs → (e : ℕ)
-    → getD cs e 0 ≡ sumTo (length ps) (λ i. getD (basis ps i) e 0 ⊗ eval (getD ps i 0) cs)
-interpolate-back ps cs bytes apart n b e = ap (λ (l : List ℕ). getD l e 0) same ∙ combined-at ps v (length ps) e
+-- all of them, each times the polynomial's value at its point, are the polynomial
+interpolate-sum : (ps cs : List ℕ) → Each Byte ps → Distinct ps → length cs ≡ length ps → Each Byte cs
+    → cs ≡ combined (length ps) ps (λ i. eval (getD ps i 0) cs) (length ps)
+interpolate-sum ps cs bytes apart n b =
+    unique ps cs sum bytes apart b (combined-byte ps v (length ps)) (n ∙ sym (combined-length ps v (length ps))) (omega arith)
+    (each-map (λ x. eval x cs) (λ x. eval x sum) ps (each-of (λ x. eval x cs ≡ eval x sum) ps 0 at))
   where
     v : ℕ → ℕ
     v i = eval (getD ps i 0) cs
@@ -170,7 +172,15 @@ interpolate-back ps cs bytes apart n b e = ap (λ (l : List ℕ). getD l e 0) sa
         ∙ ap (_⊗_ (v j)) (basis-at ps bytes apart j j h ∙ ap (λ (t : Bool). cond t 1 0) (eq-eqb j j refl))
         ∙ ⊗-one (v j) (eval-byte (getD ps j 0) cs b))
 
-    same : cs ≡ sum
-    same =
-        unique ps cs sum bytes apart b (combined-byte ps v (length ps)) (n ∙ sym (combined-length ps v (length ps))) (omega arith)
-        (each-map (λ x. eval x cs) (λ x. eval x sum) ps (each-of (λ x. eval x cs ≡ eval x sum) ps 0 at))
+-- each coefficient is the sum over the points of the basis' coefficient times the value there
+pub interpolate-back : (ps cs : List ℕ) → Each Byte ps → Distinct ps → length cs ≡ length ps → Each Byte cs → (e : ℕ)
+    → getD cs e 0 ≡ sumTo (length ps) (λ i. getD (basis ps i) e 0 ⊗ eval (getD ps i 0) cs)
+interpolate-back ps cs bytes apart n b e =
+    ap (λ (l : List ℕ). getD l e 0) (interpolate-sum ps cs bytes apart n b) ∙ combined-at ps (λ i. eval (getD ps i 0) cs) (length ps) e
+
+-- and so is the value at any x, of the basis' value there
+pub interpolate-value : (ps cs : List ℕ) → Each Byte ps → Distinct ps → length cs ≡ length ps → Each Byte cs → (x : ℕ)
+    → eval x cs ≡ sumTo (length ps) (λ i. eval x (basis ps i) ⊗ eval (getD ps i 0) cs)
+interpolate-value ps cs bytes apart n b x =
+    ap (eval x) (interpolate-sum ps cs bytes apart n b) ∙ combined-eval x ps (λ i. eval (getD ps i 0) cs) (length ps)
+    ∙ sumTo-same (length ps) _ _ (λ i _. ⊗-comm (eval (getD ps i 0) cs) (eval x (basis ps i)))

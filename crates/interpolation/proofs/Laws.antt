@@ -9,3 +9,4 @@ pub use Rattle.interpolation.proofs.Through.{interpolation}
 pub use Rattle.interpolation.proofs.Lagrange.{unit-values, basis-length, basis-byte, basis-rule, basis-at, basis-unique, basis-formula, sumTo-same, sumTo-zero, sumTo-linear, sumTo-one, interpolate-back}
 pub use Rattle.interpolation.proofs.Weights.{weight-within, weight-beyond, weight-too-many, weight-not-distinct, table-at}
 pub use Rattle.interpolation.proofs.Remainders.{opening-solved, opening-parties, opening-known}
+pub use Rattle.interpolation.proofs.ValueWeights.{value-solved, chosen-party, chosen-known}

@@ -7,6 +7,7 @@ mod Lagrange
 mod Weights
 mod Remainders
 mod OpeningRows
+mod ValueWeights
 mod Table
 mod Row
 mod Rows

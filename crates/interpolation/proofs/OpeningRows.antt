@@ -1,12 +1,14 @@
--- The table of an opening's weights as the code fills it: over that of the basis come the rows of the known coefficients, one after another.
+-- The table of an opening's weights as the code fills it: over that of the basis come the rows of the known coefficients, one after another. And the
+-- weights of a value, from such a table.
 -- Assumes nothing.
 use mathlib.Core.Path.{_≡_, refl, sym, ap, ap₂, _∙_}
 use mathlib.Core.List.{List, [], _∷_}
 use mathlib.Core.Logic.{⊎-elim}
 use Prim.Native.Nat.{ℕ, zero, suc, _+_, _-_, _≤_, _<_, min}
+use native.Mathlib.Numerals.{add-one}
 use native.Mathlib.Omega.{arith}
-use lib.ListN.{length, getD, set, take, replicate, length-replicate}
-use lib.Seq.{getD-take}
+use lib.ListN.{length, getD, set, take, drop, replicate, length-replicate}
+use lib.Seq.{getD-take, drop-cons, drop-length}
 use borrow.Author.Tests.{lt-ltb, le-ltb}
 use Rattle.lists.specs.Table.{tabulate}
 use Rattle.lists.proofs.Each.{replicate-at}
@@ -14,11 +16,12 @@ use Rattle.lists.proofs.Known.{Known, known-all, Written, written-more, written
 use Rattle.lists.proofs.Parts.{take-beyond}
 use Rattle.lists.proofs.Table.{length-tabulate, getD-tabulate, tabulate-same}
 use Rattle.lists.proofs.Tests.{lt-or-le}
-use Rattle.gf256.specs.Byte.{_⊕_, _⊗_}
-use Rattle.interpolation.specs.Polynomial.{plus, scale, vanishing, lowest}
+use Rattle.gf256.specs.Byte.{_⊕_, _⊗_, power}
+use Rattle.gf256.proofs.Laws.{⊕-zero, ⊗-comm}
+use Rattle.interpolation.specs.Polynomial.{next, eval, plus, scale, vanishing, lowest}
 use Rattle.interpolation.specs.Interpolation.{side, weight, basisTable}
-use Rattle.interpolation.specs.Opening.{remainder, openingWeight, openingTable}
-use Rattle.interpolation.proofs.Polynomial.{vanishing-length}
+use Rattle.interpolation.specs.Opening.{remainder, openingWeight, openingTable, valueWeight}
+use Rattle.interpolation.proofs.Polynomial.{eval-same, vanishing-length}
 use Rattle.interpolation.proofs.Table.{lowest-at}
 use Rattle.interpolation.proofs.Weights.{weight-beyond}
 use Rattle.interpolation.proofs.Remainders.{raised-at, remainder-length}
@@ -112,3 +115,41 @@ module _ (ps : List ℕ) (top end : ℕ) (cut : end ≡ min top side) where
   pub opening-all : (i : ℕ) (table : List (List ℕ)) → end ≤ i → KnownRows ps top end i table → table ≡ openingTable ps top
   unfolding openingTable
   opening-all i table h o = written-all o h
+
+-- ---- the weights of a value
+
+-- the value of the n lowest coefficients, from the highest down: of none
+pub value-none : (x n e : ℕ) (row : List ℕ) → e ≡ n → 0 ≡ eval x (drop e (lowest n row))
+unfolding eval
+value-none x n e row q =
+    sym (ap (λ (k : ℕ). eval x (drop k (lowest n row))) (q ∙ sym (length-tabulate n _)) ∙ ap (eval x) (drop-length (lowest n row)))
+
+-- one more, where u is the product with x
+pub value-more : (x n e k : ℕ) (row : List ℕ) (value u : ℕ) → k ≡ e + 1 → k ≤ n → value ≡ eval x (drop k (lowest n row)) → u ≡ value ⊗ x
+    → getD row e 0 ⊕ u ≡ eval x (drop e (lowest n row))
+unfolding next eval
+value-more x n e k row value u q h o eu =
+    let s : k ≡ suc e = rw add-one at q in
+    let inside : e < n = omega arith in
+    ap₂ _⊕_ (sym (getD-tabulate n (λ c. getD row c 0) e 0 inside)) (eu ∙ ⊗-comm value x ∙ ap (_⊗_ x) (rw s at o))
+    ∙ sym (ap (eval x) (drop-cons (lowest n row) e 0 (rw length-tabulate inside)))
+
+-- a row has no coefficients past its end
+pub value-cut : (x d : ℕ) (row : List ℕ) → length row ≡ side → eval x (lowest (min d side) row) ≡ eval x (lowest d row)
+value-cut x d row long =
+    ⊎-elim
+    (λ (h : d < side). let q : min d side ≡ d = omega arith in ap (λ (n : ℕ). eval x (lowest n row)) q)
+    (λ (h : side ≤ d).
+    eval-same x (lowest (min d side) row) (lowest d row)
+    (λ e. lowest-at (min d side) row e (omega arith) ∙ sym (lowest-at d row e (omega arith)))) (lt-or-le d side)
+
+module _ (weights : List (List ℕ)) (d x i value : ℕ) (is : value ≡ eval x (lowest d (getD weights i []))) where
+  -- of a party
+  pub value-party : i < d → value ≡ valueWeight weights d x i
+  unfolding valueWeight
+  value-party h = simp (lt-ltb i d h) (is ∙ sym (⊕-zero _))
+
+  -- of a known coefficient
+  pub value-known : (p : ℕ) → d ≤ i → p ≡ power x i → value ⊕ p ≡ valueWeight weights d x i
+  unfolding valueWeight
+  value-known p h ep = simp (le-ltb i d h) (ap₂ _⊕_ is ep)

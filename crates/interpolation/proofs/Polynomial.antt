@@ -47,6 +47,14 @@ unfolding next eval
 eval-append-zeros x [] n = eval-zeros x n
 eval-append-zeros x (c ∷ cs) n = simp (eval-append-zeros x cs n)
 
+-- polynomials with the same coefficients have the same values, whatever zeros stand above
+pub eval-same : (x : ℕ) (cs ds : List ℕ) → ((e : ℕ) → getD cs e 0 ≡ getD ds e 0) → eval x cs ≡ eval x ds
+unfolding next eval
+eval-same x [] [] h = refl
+eval-same x [] (d ∷ ds) h = sym (⊕-zero 0) ∙ ap₂ _⊕_ (h 0) (sym (⊗-zero x) ∙ ap (_⊗_ x) (eval-same x [] ds (λ e. h (suc e))))
+eval-same x (c ∷ cs) [] h = ap₂ _⊕_ (h 0) (ap (_⊗_ x) (eval-same x cs [] (λ e. h (suc e))) ∙ ⊗-zero x) ∙ ⊕-zero 0
+eval-same x (c ∷ cs) (d ∷ ds) h = ap₂ (next x) (eval-same x cs ds (λ e. h (suc e))) (h 0)
+
 pub eval-linear : (x p low : ℕ) (cs : List ℕ) → eval x (linear p low cs) ≡ low ⊕ (x ⊕ p) ⊗ eval x cs
 unfolding next eval linear
 eval-linear x p low [] = simp (⊗-zero)

@@ -92,25 +92,25 @@ remainder-value ps x root (suc k) =
 
 -- ---- what a division leaves of a polynomial's first d + m coefficients
 
-left : List ℕ → List ℕ → ℕ → List ℕ
+unfoldable pub left : List ℕ → List ℕ → ℕ → List ℕ
 left ps cs zero = take (length ps) cs
 left ps cs (suc m) = plus (left ps cs m) (scale (getD cs (length ps + m) 0) (remainder ps m))
 
 module _ (ps cs : List ℕ) (bytes : Each Byte cs) (long : length ps ≤ length cs) where
-  left-length : (m : ℕ) → length (left ps cs m) ≡ length ps
+  pub left-length : (m : ℕ) → length (left ps cs m) ≡ length ps
   unfolding left
   left-length zero = length-take-le (length ps) cs long
   left-length (suc m) =
       let n : length (left ps cs m) ≡ length ps = left-length m in
       plus-length (left ps cs m) (scale _ (remainder ps m)) (n ∙ sym (scale-length _ (remainder ps m) ∙ remainder-length ps m)) ∙ n
 
-  left-byte : (m : ℕ) → Each Byte (left ps cs m)
+  pub left-byte : (m : ℕ) → Each Byte (left ps cs m)
   unfolding left
   left-byte zero = each-take Byte (length ps) cs bytes
   left-byte (suc m) = plus-byte (left ps cs m) (scale _ (remainder ps m)) (left-byte m) (scale-byte _ (remainder ps m))
 
   -- it has their value at each of the points
-  left-value : (x : ℕ) → eval x (vanishing ps) ≡ 0 → (m : ℕ) → length ps + m ≤ length cs → eval x (left ps cs m) ≡ eval x (take (length ps + m) cs)
+  pub left-value : (x : ℕ) → eval x (vanishing ps) ≡ 0 → (m : ℕ) → length ps + m ≤ length cs → eval x (left ps cs m) ≡ eval x (take (length ps + m) cs)
   unfolding left
   left-value x root zero h = simp unary-clauses
   left-value x root (suc m) h =

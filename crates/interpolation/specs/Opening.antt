@@ -2,12 +2,13 @@
 -- sums of the parties' values and of the known coefficients, each times its weight.
 -- Assumes nothing.
 use mathlib.Core.Bool.{cond}
-use mathlib.Core.List.{List, _∷_}
+use mathlib.Core.List.{List, [], _∷_}
 use Prim.Native.Nat.{ℕ, zero, suc, _-_}
 use lib.Dec.{ltb}
 use lib.ListN.{length, getD, take}
 use Rattle.lists.specs.Table.{tabulate}
-use Rattle.interpolation.specs.Polynomial.{plus, scale, vanishing}
+use Rattle.gf256.specs.Byte.{_⊕_, power}
+use Rattle.interpolation.specs.Polynomial.{eval, plus, scale, vanishing, lowest}
 use Rattle.interpolation.specs.Interpolation.{side, weight}
 
 -- what a division of x to the power d + k by the product of x + p over the d points leaves: the product without its highest coefficient, and
@@ -23,3 +24,8 @@ openingWeight ps top i e = cond (ltb i (length ps)) (weight ps i e) (cond (ltb i
 
 unfoldable pub openingTable : List ℕ → ℕ → List (List ℕ)
 openingTable ps top = tabulate side (λ i. tabulate side (openingWeight ps top i))
+
+-- from the weights of an opening at d points, those of a row's value at x: what the party at place i, or the known coefficient of degree i, adds to the
+-- coefficients below d adds to the value at x, and a known coefficient adds itself times x to the power i
+unfoldable pub valueWeight : List (List ℕ) → ℕ → ℕ → ℕ → ℕ
+valueWeight weights d x i = eval x (lowest d (getD weights i [])) ⊕ cond (ltb i d) 0 (power x i)

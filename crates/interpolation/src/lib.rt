@@ -15,6 +15,7 @@ use gf256::lanes::LANES;
 mod opening;
 
 pub use opening::opening_weights;
+pub use opening::value_weights;
 
 // Document 01's running row value, of one row in 64 consecutive blocks: its values at a point, over
 // the coefficients taken so far.

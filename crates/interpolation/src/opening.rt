@@ -5,9 +5,10 @@ ghost use mathlib.Core.Path.{_≡_};
 ghost use mathlib.Core.List.{_∷_};
 ghost use Prim.Native.Nat.{_-_, _≤_};
 ghost use lib.ListN.{getD, take};
+ghost use Rattle.lists.specs.Table.{tabulate};
 ghost use Rattle.interpolation.specs.Polynomial as polynomial;
 ghost use Rattle.interpolation.specs.Interpolation.{side};
-ghost use Rattle.interpolation.specs.Opening.{openingTable};
+ghost use Rattle.interpolation.specs.Opening.{openingTable, valueWeight};
 use crate::SIDE;
 use lists::smaller;
 
@@ -74,4 +75,38 @@ fn next_remainder(product: [u8; SIDE + 1], last: [u8; SIDE], d: usize) -> [u8; S
         e += 1;
     }
     row
+}
+
+// The weights of a row's value at x, from those of an opening at d points: what a party's value or a known
+// coefficient adds to the coefficients below d it adds, as their value at x, to the value of the row, and a
+// known coefficient, of a degree i from d up, adds itself times x to the power i besides.
+pub fn value_weights(weights: &[[u8; SIDE]; SIDE], d: usize, x: u8) -> [u8; SIDE]
+    ensures { λ r. ⌜ r ≡ tabulate side (valueWeight (now (weights .entry)) d x) ⌝ }
+{
+    let mut chosen = [0u8; SIDE];
+    let mut power: u8 = 1;
+    let mut i = 0;
+    while i < SIDE {
+        let mut value = value_below(weights[i], d, x);
+        if d <= i {
+            value = value ^ power;
+        }
+        chosen[i] = value;
+        power = gf256::mul_by_shifting(power, x);
+        i += 1;
+    }
+    chosen
+}
+
+// The value at x of the coefficients below d, from the highest down.
+fn value_below(coefficients: [u8; SIDE], d: usize, x: u8) -> u8
+    ensures { λ r. ⌜ r ≡ polynomial.eval x (polynomial.lowest d coefficients) ⌝ }
+{
+    let mut value: u8 = 0;
+    let mut e = smaller(d, SIDE);
+    while 0 < e {
+        e -= 1;
+        value = coefficients[e] ^ gf256::mul_by_shifting(value, x);
+    }
+    value
 }

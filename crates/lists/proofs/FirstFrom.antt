@@ -3,7 +3,7 @@
 use mathlib.Core.Path.{_≡_, refl}
 use mathlib.Core.Bool.{Bool, true, false, cond}
 use mathlib.Core.Logic.{⊎-elim}
-use Prim.Native.Nat.{ℕ, zero, suc, _+_, _≤_, _<_}
+use Prim.Native.Nat.{ℕ, zero, suc, _+_, _-_, _≤_, _<_}
 use native.Mathlib.Nat.{eq-or-lt-of-le}
 use native.Mathlib.Omega.{arith}
 use Rattle.lists.specs.FirstFrom.{firstFrom}
@@ -44,3 +44,23 @@ module _ (test : ℕ → Bool) where
         before = λ k a b. absurd (let no : ⊥ = omega arith in no);
       }
   first-found (suc many) x = found-by many x _ (test x) refl (first-found many (x + 1))
+
+  -- ---- the search as a loop makes it: of n numbers those from i on are left
+
+  pub first-here : (n i : ℕ) → i < n → test i ≡ true → firstFrom test (n - i) i ≡ i
+  unfolding firstFrom
+  first-here n i h e =
+      let more : n - i ≡ suc (n - i - 1) = omega arith in
+      rw (more, e)
+
+  pub first-next : (n i : ℕ) → i < n → test i ≡ false → firstFrom test (n - i) i ≡ firstFrom test (n - (i + 1)) (i + 1)
+  unfolding firstFrom
+  first-next n i h e =
+      let more : n - i ≡ suc (n - (i + 1)) = omega arith in
+      rw (more, e)
+
+  pub first-end : (n i : ℕ) → n ≤ i → firstFrom test (n - i) i ≡ i
+  unfolding firstFrom
+  first-end n i h =
+      let none : n - i ≡ 0 = omega arith in
+      rw none

@@ -14,5 +14,7 @@ pub mod Known
 pub mod Arrays
 pub mod Joined
 pub mod Piece
+pub mod Differing
+pub mod Skipped
 pub mod Columns
 pub mod Once

@@ -1,4 +1,5 @@
 pub mod Each
 pub mod Table
 pub mod Without
+pub mod Differing
 pub mod FirstFrom

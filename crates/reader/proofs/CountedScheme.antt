@@ -1,12 +1,11 @@
 -- An accepted scheme and its count d, in the code's numbers.
 -- Assumes nothing.
-use mathlib.Core.Path.{_≡_, sym}
+use mathlib.Core.Path.{_≡_, refl, sym}
 use mathlib.Core.Bool.{true}
 use mathlib.Core.List.{List}
-use Prim.Native.Nat.{ℕ, _*_, _≤_, _<_}
+use Prim.Native.Nat.{ℕ, _*_, _≤_}
 use native.Mathlib.Nat.{mul-le-mul}
 use native.Mathlib.Omega.{arith}
-use lib.ListN.{length, getD}
 use Rattle.lists.specs.Each.{occurs}
 use Rattle.lists.proofs.Each.{occurs-place}
 use Rattle.interpolation.specs.Interpolation.{side}
@@ -17,7 +16,7 @@ use Rattle.scheme.proofs.Laws.{scheme-own}
 use Rattle.staircase.proofs.Sizes.{rows-few}
 use Rattle.rows.proofs.Scheme.{facts-of}
 use Rattle.order.proofs.ReadingOrder.{CountIn}
-use Rattle.reader.specs.Decoding.{sentRows, Counted, Input}
+use Rattle.reader.specs.Decoding.{sentRows, sentBytes, Counted, Input}
 
 -- s is what the check answers for these parameters
 pub counted-of : {n r z : ℕ} {ds : List ℕ} {s : Scheme} {d : ℕ} → SchemeIs s n r z ds → occurs d ds ≡ true → Counted s ds d
@@ -52,3 +51,8 @@ module _ {s : Scheme} {ds : List ℕ} {d : ℕ} (C : Counted s ds d) where
 pub prefix-few : {s : Scheme} {ds : List ℕ} {d blocks : ℕ} {prefixes : List ℕ} → Input s ds d blocks prefixes
     → (P : ℕ) → P ≡ sentRows s d → P * blocks ≤ maxBlock * maxBlocks
 prefix-few I P e = mul-le-mul (rows-small (I .counted) P e) (I .blocks-high)
+
+-- and so are those of all prefixes
+pub sent-few : {s : Scheme} {ds : List ℕ} {d blocks : ℕ} {prefixes : List ℕ} → Input s ds d blocks prefixes
+    → sentBytes s d blocks ≤ side * (maxBlock * maxBlocks)
+sent-few I = mul-le-mul (count-high (I .counted)) (prefix-few I _ refl)

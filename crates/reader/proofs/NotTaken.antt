@@ -20,7 +20,8 @@ use Rattle.scheme.specs.declared.Scheme.{Scheme}
 use Rattle.rows.specs.Sources.{RowOrigins}
 use Rattle.order.specs.ReadingOrder.{rowInTurn}
 use Rattle.reader.specs.Decoding.{WeightsOf, HasPlaces, RowOf, sentRows, Input, Sent, Found}
-use Rattle.reader.proofs.RowOrder.{TurnAt, top, row-places, sizes, sizes-fit, row-weights, row-fits, row-values, row-known, row-found, found-none}
+use Rattle.reader.proofs.RowFacts.{top, row-places, sizes, sizes-fit, row-weights, row-fits, row-values}
+use Rattle.reader.proofs.RowOrder.{TurnAt, row-at, row-known, row-found, found-none}
 
 -- ---- one row: equal values at d points and equal coefficients from degree d up make equal coefficients below
 
@@ -58,27 +59,27 @@ module _ (d top : ℕ) (points : List ℕ) (weights : List (List ℕ)) (W : Weig
 
 -- ---- the row of turn u, of two strings of blocks
 
-module _ {s : Scheme} {ds : List ℕ} {d blocks : ℕ} {points prefixes prefixes′ : List ℕ} {P u j : ℕ}
-    (R : TurnAt s ds d blocks prefixes P u j) (R′ : TurnAt s ds d blocks prefixes′ P u j)
-    {places : List ℕ} (O : RowOrigins (s .block) (s .z) ds j (top R) places) {weights : List (List ℕ)} (W : WeightsOf points d (getD ds 0 0) weights)
+module _ {s : Scheme} {ds : List ℕ} {d skip blocks : ℕ} {points prefixes prefixes′ : List ℕ} {P u j : ℕ}
+    (R : TurnAt s ds d skip blocks prefixes P u j) (R′ : TurnAt s ds d skip blocks prefixes′ P u j)
+    {places : List ℕ} (O : RowOrigins (s .block) (s .z) ds j (top (row-at R)) places) {weights : List (List ℕ)} (W : WeightsOf points d (getD ds 0 0) weights)
     {B K B′ K′ : List ℕ} (X : Sent s ds d blocks points prefixes B K) (X′ : Sent s ds d blocks points prefixes′ B′ K′)
     (same : (t a : ℕ) → t < blocks → a < d → getD prefixes (a * (P * blocks) + (j * blocks + t)) 0 ≡ getD prefixes′ (a * (P * blocks) + (j * blocks + t)) 0)
     (F : Found s ds d blocks u B′ B) where
-  row-of : RowOf (sizes R) (top R) (j * blocks) places points prefixes B
-  row-of = row-values R O B K points X
+  row-of : RowOf (sizes (row-at R)) (top (row-at R)) (j * blocks) places points prefixes B
+  row-of = row-values (row-at R) O B K points X
 
-  row-of′ : RowOf (sizes R′) (top R) (j * blocks) places points prefixes′ B′
-  row-of′ = row-values R′ O B′ K′ points X′
+  row-of′ : RowOf (sizes (row-at R′)) (top (row-at R)) (j * blocks) places points prefixes′ B′
+  row-of′ = row-values (row-at R′) O B′ K′ points X′
 
-  high-same : HasPlaces 0 blocks (s .block) d (top R) places B′ B
+  high-same : HasPlaces 0 blocks (s .block) d (top (row-at R)) places B′ B
   high-same = row-known R O B′ B F
 
   low-same : HasPlaces 0 blocks (s .block) (s .z) d places B′ B
   low-same t e a ht low high =
-      let z-high : s .z ≤ d = sizes-fit R .z-low in
-      let top-low : d ≤ top R = row-fits R O .top-low in
+      let z-high : s .z ≤ d = sizes-fit (row-at R) .z-low in
+      let top-low : d ≤ top (row-at R) = row-fits (row-at R) O .top-low in
       sym (row-of .message t e ht low (omega arith))
-      ∙ lower-equal d (top R) points weights (row-weights R W) top-low (row-of .row t) (row-of′ .row t) (row-of .bytes t ht) (row-of′ .bytes t ht)
+      ∙ lower-equal d (top (row-at R)) points weights (row-weights (row-at R) W) top-low (row-of .row t) (row-of′ .row t) (row-of .bytes t ht) (row-of′ .bytes t ht)
       (row-of .long t ht) (row-of′ .long t ht)
       (λ k hk. sym (row-of .sent t k ht hk) ∙ same t k ht hk ∙ row-of′ .sent t k ht hk)
       (λ f lf inside.
@@ -102,8 +103,8 @@ module _ {s : Scheme} {ds : List ℕ} {d blocks : ℕ} {points prefixes prefixes
   turns-same zero h same = found-none s ds d blocks B′ B
   turns-same (suc u) h same =
       let j : ℕ = rowInTurn (s .block) (s .z) ds d u in
-      let R : TurnAt s ds d blocks prefixes (sentRows s d) u j = record { input = J; P-is = refl; here = h; row-is = refl } in
-      let R′ : TurnAt s ds d blocks prefixes′ (sentRows s d) u j = record { input = J′; P-is = refl; here = h; row-is = refl } in
+      let R : TurnAt s ds d d blocks prefixes (sentRows s d) u j = record { input = J; P-is = refl; here = h; row-is = refl } in
+      let R′ : TurnAt s ds d d blocks prefixes′ (sentRows s d) u j = record { input = J′; P-is = refl; here = h; row-is = refl } in
       rw add-one at
-      (turn-same R R′ (row-places R (replicate side 0) (length-replicate {A = ℕ} side 0)) W X X′ (λ t a ht ha. same u t a (omega arith) ht ha)
+      (turn-same R R′ (row-places (row-at R) (replicate side 0) (length-replicate {A = ℕ} side 0)) W X X′ (λ t a ht ha. same u t a (omega arith) ht ha)
       (turns-same u (omega arith) (λ v t a hv ht ha. same v t a (omega arith) ht ha)))

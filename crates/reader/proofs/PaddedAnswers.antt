@@ -37,7 +37,7 @@ use Rattle.reader.proofs.RangeAnswers.{turns-reach}
 use Rattle.reader.proofs.Reading.{opened-long}
 
 -- the blocks that a length tells are no longer than the longest message and a block
-held-small : (m unit bytes : ℕ) → 0 < m → m ≤ maxBlock → blocksHeld (mostPadded m) unit bytes * m ≤ maxMessage + maxBlock
+pub held-small : (m unit bytes : ℕ) → 0 < m → m ≤ maxBlock → blocksHeld (mostPadded m) unit bytes * m ≤ maxMessage + maxBlock
 held-small m unit bytes positive most =
     let N : ℕ = blocksHeld (mostPadded m) unit bytes in
     ⊎-elim

@@ -30,7 +30,53 @@ use Rattle.staircase.proofs.Sizes.{rows-within, count-most}
 use Rattle.staircase.proofs.WholeBlocks.{exact}
 use Rattle.rows.proofs.Scheme.{facts-of}
 
--- s is what the check answers for its parameters, and N blocks are read by these parties
+-- s is what the check answers for its parameters, and N blocks are read by these parties, which are distinct and inside, in any order
+module _ (s : Scheme) (ds : List ℕ) (S : SchemeIs s (s .n) (s .r) (s .z) ds) (parties : List ℕ) (counted : occurs (length parties) ds ≡ true)
+    (right : Distinct parties × Each (Party (parameters (s .n) (s .r) (s .z) ds)) parties) (N : ℕ) where
+  abbrev q : Parameters
+  q = parameters (s .n) (s .r) (s .z) ds
+
+  few : rowsOfCount (block q) (s .z) (length parties) ≤ rows q
+  few = rows-within q (S .passed) (length parties) counted
+
+  first-most : getD ds 0 0 ≤ side
+  first-most =
+      let A = facts-of s ds S in
+      omega (arith, A .high 0 (A .some), A .sizes .parties-high)
+
+  -- the weights of an opening at the parties' points
+  weights-of : (top : ℕ) → top ≤ side → WeightsOf (map (point q) parties) (length parties) top (openingTable (map (point q) parties) top)
+  weights-of top most =
+      let points : List ℕ = map (point q) parties in
+      let n : length points ≡ length parties = length-map parties (point q) in
+      let l : length parties ≤ side = count-most q (S .passed) (length parties) counted in
+      let apart = points-distinct q (S .passed) parties (right .1) (right .0) in
+      record {
+        long = n;
+        bytes = points-bytes q (S .passed) parties (right .1);
+        distinct = apart;
+        parties = λ a e ha he. opening-parties points top a e (rw n ha) (omega arith) (omega arith) (rw n l) (true-distinct points apart);
+        known = λ i e low high he. rw n at (opening-known points top i e (rw n low) high (omega arith) (omega arith));
+      }
+
+  pub largest-weights : WeightsOf (map (point q) parties) (length parties) (getD ds 0 0) (openingTable (map (point q) parties) (getD ds 0 0))
+  largest-weights = weights-of (getD ds 0 0) first-most
+
+  -- N whole blocks under keys that give these prefixes
+  pub sent-by : (prefixes B K : List ℕ) → Bytes (N * block q) B → Bytes (N * (rows q * s .z)) K → GivesPrefixes q parties N B K prefixes
+      → Sent s ds (length parties) N (map (point q) parties) prefixes B K
+  unfolding readings staircase
+  sent-by prefixes B K whole enough G =
+      record {
+        blocks-are = rw (S .block-is) whole;
+        keys-are = rw (S .rows-is) enough;
+        rows = λ j t a hj ht ha.
+            rw (S .block-is, S .rows-is)
+            (sym (gives-has (staircase q) parties (rowsOfCount (block q) (s .z) (length parties)) few N prefixes B K G t ht j a (rw (S .block-is) at hj) ha)
+            ∙ rw (getD-map (point q) parties a 0 0 ha) (part-at q (S .passed) N B K (whole .0) (enough .0) t j ht (omega (arith, few, rw (S .block-is) at hj)) (getD parties a 0)));
+      }
+
+-- these parties' numbers rise
 module _ (s : Scheme) (ds : List ℕ) (S : SchemeIs s (s .n) (s .r) (s .z) ds) (parties : List ℕ) (counted : occurs (length parties) ds ≡ true)
     (passed : readersRefused (s .n) parties ≡ false) (N : ℕ) where
   abbrev p : Parameters
@@ -42,44 +88,8 @@ module _ (s : Scheme) (ds : List ℕ) (S : SchemeIs s (s .n) (s .r) (s .z) ds) (
   abbrev points-of : List ℕ
   points-of = map (point p) parties
 
-  few : rowsOfCount (block p) (s .z) d ≤ rows p
-  few = rows-within p (S .passed) d counted
-
-  first-most : getD ds 0 0 ≤ side
-  first-most =
-      let A = facts-of s ds S in
-      omega (arith, A .high 0 (A .some), A .sizes .parties-high)
-
   right : Distinct parties × Each (Party p) parties
   right = parties-distinct (s .n) parties (readers-rise (s .n) parties passed)
-
-  -- the weights of an opening at the parties' points
-  weights-of : (top : ℕ) → top ≤ side → WeightsOf points-of d top (openingTable points-of top)
-  weights-of top most =
-      let n : length points-of ≡ d = length-map parties (point p) in
-      let l : d ≤ side = count-most p (S .passed) d counted in
-      let apart = points-distinct p (S .passed) parties (right .1) (right .0) in
-      record {
-        long = n;
-        bytes = points-bytes p (S .passed) parties (right .1);
-        distinct = apart;
-        parties = λ a e ha he. opening-parties points-of top a e (rw n ha) (omega arith) (omega arith) (rw n l) (true-distinct points-of apart);
-        known = λ i e low high he. rw n at (opening-known points-of top i e (rw n low) high (omega arith) (omega arith));
-      }
-
-  -- N whole blocks under keys that give these prefixes
-  sent-by : (prefixes B K : List ℕ) → Bytes (N * block p) B → Bytes (N * (rows p * s .z)) K → GivesPrefixes p parties N B K prefixes
-      → Sent s ds d N points-of prefixes B K
-  unfolding readings staircase
-  sent-by prefixes B K whole enough G =
-      record {
-        blocks-are = rw (S .block-is) whole;
-        keys-are = rw (S .rows-is) enough;
-        rows = λ j t a hj ht ha.
-            rw (S .block-is, S .rows-is)
-            (sym (gives-has (staircase p) parties (rowsOfCount (block p) (s .z) d) few N prefixes B K G t ht j a (rw (S .block-is) at hj) ha)
-            ∙ rw (getD-map (point p) parties a 0 0 ha) (part-at p (S .passed) N B K (whole .0) (enough .0) t j ht (omega (arith, few, rw (S .block-is) at hj)) (getD parties a 0)));
-      }
 
   -- the opened blocks are whole
   pub opened-long : (prefixes : List ℕ) → length (openedString p parties N prefixes) ≡ N * s .block
@@ -93,11 +103,11 @@ module _ (s : Scheme) (ds : List ℕ) (S : SchemeIs s (s .n) (s .r) (s .z) ds) (
   opened-sent prefixes long bytes =
       let X = exact p (S .passed) parties counted (right .0) (right .1) N in
       let found = X .exists prefixes (rw (S .block-is) at long, bytes) in
-      (found .0, sent-by prefixes (openedString p parties N prefixes) (found .0) (X .bytes prefixes) (found .1) (found .2))
+      (found .0, sent-by s ds S parties counted right N prefixes (openedString p parties N prefixes) (found .0) (X .bytes prefixes) (found .1) (found .2))
 
   -- and these are the weights for them
   pub opened-weights : WeightsOf points-of d (getD ds 0 0) (openingTable points-of (getD ds 0 0))
-  opened-weights = weights-of (getD ds 0 0) first-most
+  opened-weights = largest-weights s ds S parties counted right N
 
   -- so what the reader's loops say of the blocks that were sent holds of the opened blocks
   pub begins : (prefixes : List ℕ) → length prefixes ≡ sentBytes s d N → Each Byte prefixes

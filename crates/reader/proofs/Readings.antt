@@ -7,7 +7,6 @@ use Prim.Native.Nat.{ℕ, _+_, _-_, _*_, _≤_, _<_}
 use native.Mathlib.Nat.{not-suc-le-zero, add-sub-cancel-left}
 use native.Mathlib.Omega.{arith}
 use lib.ListN.{length, getD, take, drop}
-use lib.Seq.{getD-take, getD-drop}
 use Rattle.lists.proofs.Parts.{mid-length, mid-before, mid-in, mid-outside}
 use Rattle.lists.proofs.Tests.{lt-or-le}
 use Rattle.gf256.specs.Lanes.{lanes}
@@ -44,13 +43,12 @@ module _ (prefixes : List ℕ) (prefix q many : ℕ) (before : List ℕ) where
   pub sent-none : length before ≡ side * lanes → SentColumns prefixes prefix q many 0 before before
   sent-none long = record { long = long; sent = λ a k h. absurd (not-suc-le-zero h); still = λ i h. refl }
 
-  -- the first bytes of column a were lent and came back as y
+  -- the first bytes of column a were lent and came back as y, which are those of party a
   pub sent-more : (a : ℕ) (o y : List ℕ) → SentColumns prefixes prefix q many a before o → a < side → many ≤ lanes
-      → length y ≡ many → y ≡ take (a * prefix + q + many - (a * prefix + q)) (drop (a * prefix + q) prefixes)
+      → length y ≡ many → ((k : ℕ) → k < many → getD y k 0 ≡ getD prefixes (a * prefix + q + k) 0)
       → SentColumns prefixes prefix q many (a + 1) before (take (a * lanes) o ++ (y ++ drop (a * lanes + many - a * lanes) (drop (a * lanes) o)))
   sent-more a o y C l few long is =
       let room : a * lanes + many ≤ length o = omega (arith, C .long) in
-      let at : ℕ = a * prefix + q in
       rw add-sub-cancel-left
       (record {
         long = mid-length (a * lanes) many o y room long ∙ C .long;
@@ -58,11 +56,7 @@ module _ (prefixes : List ℕ) (prefix q many : ℕ) (before : List ℕ) where
             ⊎-elim (λ (i : b < a). mid-before (a * lanes) many o y room 0 (b * lanes + k) (omega arith) ∙ C .sent b k i c)
             (λ (i : a ≤ b).
             let s : b ≡ a = omega arith in
-            rw s
-            (mid-in (a * lanes) many o y room 0 k long c
-            ∙ ap (λ (r : List ℕ). getD r k 0) (rw add-sub-cancel-left at is)
-            ∙ getD-take many (drop (a * prefix + q) prefixes) k 0 c
-            ∙ getD-drop (a * prefix + q) prefixes k 0))
+            rw s (mid-in (a * lanes) many o y room 0 k long c ∙ is k c))
             (lt-or-le b a);
         still = λ i h. mid-outside (a * lanes) many o y room 0 i long (inr (omega arith)) ∙ C .still i (omega arith);
       })

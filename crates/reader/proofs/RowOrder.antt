@@ -5,32 +5,21 @@ use mathlib.Core.Path.{_≡_, refl, sym, ap, _∙_}
 use mathlib.Core.List.{List, _++_}
 use mathlib.Core.Logic.{⊎-elim}
 use Prim.Native.Nat.{ℕ, _+_, _-_, _*_, _/_, _%_, _≤_, _<_, zero-le}
-use native.Mathlib.Nat.{le-of-lt, zero-mul, mul-zero, zero-add, add-mul, mul-add, mul-le-mul-left, mul-le-mul-right, div-add-mod'}
+use native.Mathlib.Nat.{zero-mul, mul-zero, zero-add, add-mul, mul-add, mul-le-mul-left, mul-le-mul-right, div-add-mod'}
 use native.Mathlib.Omega.{arith}
 use lib.ListN.{length, getD, take, drop, length-append, length-drop, List·getD-append}
 use lib.Seq.{ext-getD, getD-take, getD-drop, length-take-le}
-use borrow.Author.Tests.{le-ltb}
-use Rattle.lists.specs.Each.{Each, Byte}
-use Rattle.lists.specs.Table.{tabulate}
-use Rattle.lists.proofs.Each.{each-tabulate}
-use Rattle.lists.proofs.Joined.{row-room, in-grid}
-use Rattle.lists.proofs.Table.{length-tabulate, getD-tabulate}
+use Rattle.lists.proofs.Joined.{in-grid}
 use Rattle.lists.proofs.Tests.{lt-or-le}
-use Rattle.interpolation.specs.Interpolation.{side}
 use Rattle.scheme.specs.declared.Scheme.{Scheme}
-use Rattle.staircase.specs.Coefficients.{groupOf, countOf, origin, coefficientAt}
-use Rattle.staircase.proofs.Construction.{coefficient-at-byte}
-use Rattle.staircase.proofs.Groups.{counts-fall}
-use Rattle.rows.specs.Origins.{originsOver}
+use Rattle.staircase.specs.Coefficients.{countOf, origin}
 use Rattle.rows.specs.Sources.{RowOrigins}
-use Rattle.rows.proofs.Scheme.{row-group, row-count-high}
-use Rattle.rows.proofs.Laws.{row-origins}
 use Rattle.order.specs.ReadingOrder.{rowInTurn}
 use Rattle.order.specs.RowsTaken.{Reached}
 use Rattle.order.proofs.ReadingOrder.{order-of, turnOf, in-turn, row-in-turn-below, later-sooner}
-use Rattle.reader.specs.declared.decoding.Sizes.{Sizes}
-use Rattle.reader.specs.Decoding.{SizesFit, RowFits, WeightsOf, RowOf, HasPlaces, Solved, Solves, sentRows, Counted, Input, Sent, EachSent, Found}
-use Rattle.reader.proofs.CountedScheme.{A, count-in, count-high}
+use Rattle.reader.specs.Decoding.{HasPlaces, Solved, Solves, sentRows, Counted, Input, EachSent, Found}
+use Rattle.reader.proofs.CountedScheme.{count-in}
+use Rattle.reader.proofs.RowFacts.{RowAt, top, sizes, row-weights, row-values}
 
 -- ---- the bytes counted: those of d parties and `blocks` blocks in each turn passed
 
@@ -47,87 +36,26 @@ counted-more d blocks used u P most h e fits =
 
 -- ---- the row j of turn u, in the code's numbers: of the P rows of d
 
-pub record TurnAt (s : Scheme) (ds : List ℕ) (d blocks : ℕ) (prefixes : List ℕ) (P u j : ℕ) : Type 0 where
+pub record TurnAt (s : Scheme) (ds : List ℕ) (d skip blocks : ℕ) (prefixes : List ℕ) (P u j : ℕ) : Type 0 where
   pub input : Input s ds d blocks prefixes
   pub P-is : P ≡ sentRows s d
   pub here : u < sentRows s d
   pub row-is : j ≡ rowInTurn (s .block) (s .z) ds d u
 
-module _ {s : Scheme} {ds : List ℕ} {d blocks : ℕ} {prefixes : List ℕ} {P u j : ℕ} (R : TurnAt s ds d blocks prefixes P u j) where
+module _ {s : Scheme} {ds : List ℕ} {d skip blocks : ℕ} {prefixes : List ℕ} {P u j : ℕ} (R : TurnAt s ds d skip blocks prefixes P u j) where
   C : Counted s ds d
   C = R .input .counted
 
-  -- the number of its coefficients
-  abbrev pub top : ℕ
-  top = countOf (s .block) (s .z) ds j
+  -- the row by its number
+  pub row-at : RowAt s ds d skip blocks prefixes P j
+  row-at = record { input = R .input; P-is = R .P-is; inside = rw (R .row-is) (row-in-turn-below (count-in C) u (R .here)) }
 
-  row-inside : j < sentRows s d
-  row-inside = rw (R .row-is) (row-in-turn-below (count-in C) u (R .here))
-
-  pub row-below : j < s .rows
-  row-below = omega (arith, row-inside, order-of (count-in C) .most)
-
-  -- the origins of its coefficients, written over 16 places
-  pub row-places : (places : List ℕ) → length places ≡ side → RowOrigins (s .block) (s .z) ds j top (originsOver (s .block) (s .z) ds j places)
-  row-places places long = row-origins s ds (C .scheme) j row-below places long
-
-  -- the sizes of what is read
-  abbrev pub sizes : Sizes
-  sizes = record { z = s .z; d = d; block = s .block; blocks = blocks; prefix = P * blocks }
-
-  pub sizes-fit : SizesFit sizes prefixes
-  sizes-fit =
-      record {
-        z-low = le-of-lt (order-of (count-in C) .above);
-        d-high = count-high C;
-        block-high = A C .limit;
-        blocks-high = R .input .blocks-high;
-        prefixes-long = R .input .prefixes-long ∙ ap (λ (x : ℕ). d * (x * blocks)) (sym (R .P-is));
-      }
-
-  -- the weights for the largest count are also those for the row's
-  pub row-weights : {points : List ℕ} {weights : List (List ℕ)} → WeightsOf points d (getD ds 0 0) weights → WeightsOf points d top weights
-  unfolding countOf
-  row-weights W =
-      record {
-        long = W .long;
-        bytes = W .bytes;
-        distinct = W .distinct;
-        parties = W .parties;
-        known = λ i e low high.
-            W .known i e low
-            (omega (arith, counts-fall (s .n) (s .r) (s .z) ds (s .block) (s .rows) (A C) 0 (groupOf (s .block) (s .z) ds j) zero-le (row-group s ds (C .scheme) j row-below)));
-      }
-
-  module _ {places : List ℕ} (O : RowOrigins (s .block) (s .z) ds j top places) where
-    pub row-fits : RowFits sizes top (j * blocks) places
-    row-fits =
-        record {
-          top-low = order-of (count-in C) .wide j row-inside;
-          top-high = row-count-high s ds (C .scheme) j row-below;
-          inside = row-room j P blocks (omega (arith, row-inside, R .P-is));
-          places-low = O .below;
-        }
-
-    -- the row of each block of B
-    pub row-values : (B K points : List ℕ) → Sent s ds d blocks points prefixes B K → RowOf sizes top (j * blocks) places points prefixes B
-    unfolding coefficientAt
-    row-values B K points X =
-        record {
-          row = λ t. tabulate top (coefficientAt (s .block) (s .rows) (s .z) ds B K t j);
-          long = λ t h. length-tabulate {A = ℕ} top _;
-          bytes = λ t h.
-              each-tabulate Byte top _
-              (λ e l. coefficient-at-byte (s .block) (s .rows) (s .z) ds B K (X .blocks-are .1) (X .keys-are .1) t j e);
-          message = λ t e h low high. getD-tabulate {A = ℕ} top _ e 0 high ∙ rw (le-ltb e (s .z) low, O .is e low high);
-          sent = λ t a h l. rw (R .P-is) (X .rows j t a row-inside h l);
-        }
-
+  module _ {places : List ℕ} (O : RowOrigins (s .block) (s .z) ds j (top row-at) places) where
     module _ (B w : List ℕ) (F : Found s ds d blocks u B w) where
       -- what the row's loop needs is in the buffer
-      pub row-known : HasPlaces 0 blocks (s .block) d top places B w
+      pub row-known : HasPlaces 0 blocks (s .block) d (top row-at) places B w
       row-known t e a b low high =
-          let S = order-of (count-in C) .again j e row-inside low high in
+          let S = order-of (count-in C) .again j e (row-at .inside) low high in
           let v : ℕ = turnOf (s .block) (s .z) ds (sentRows s d) (S .row) in
           let soon : v < u = later-sooner (count-in C) u (R .here) (S .row) (S .within) (rw (← R .row-is) (S .past)) in
           let is : rowInTurn (s .block) (s .z) ds d v ≡ S .row = in-turn (count-in C) (S .row) (S .within) in
@@ -146,16 +74,16 @@ module _ {s : Scheme} {ds : List ℕ} {d blocks : ℕ} {prefixes : List ℕ} {P 
               getD w′ place 0 ≡ getD B place 0
           self q =
               let row : rowInTurn (s .block) (s .z) ds d v ≡ j = rw q (sym (R .row-is)) in
-              let within : e < top = rw (← row) high in
+              let within : e < top row-at = rw (← row) high in
               let same : getD places e 0 ≡ origin (s .block) (s .z) ds (rowInTurn (s .block) (s .z) ds d v) e = rw row (O .is e low within) in
               let v : getD w′ (t * s .block + getD places e 0) 0 ≡ getD B (t * s .block + getD places e 0) 0
               = ⊎-elim (λ (k : e < d). X .new t e zero-le ht low k) (λ (k : d ≤ e). X .still _ (row-known t e zero-le ht k within)) (lt-or-le e d) in
               rw same at v
 
     -- the row's loop, for every B that has these prefixes
-    pub row-done : (w w′ : List ℕ) (weights : List (List ℕ)) → Solves sizes top (j * blocks) places weights prefixes 0 blocks w w′
+    pub row-done : (w w′ : List ℕ) (weights : List (List ℕ)) → Solves (sizes row-at) (top row-at) (j * blocks) places weights prefixes 0 blocks w w′
         → EachSent s ds d blocks weights prefixes (λ B. Found s ds d blocks u B w → Found s ds d blocks (u + 1) B w′)
-    row-done w w′ weights X B K points W Y F = row-found B w F w′ (X B points (row-weights W) (row-values B K points Y) (row-known B w F))
+    row-done w w′ weights X B K points W Y F = row-found B w F w′ (X B points (row-weights row-at W) (row-values row-at O B K points Y) (row-known B w F))
 
 -- no turns are passed: nothing has to be found
 pub found-none : (s : Scheme) (ds : List ℕ) (d blocks : ℕ) (B w : List ℕ) → Found s ds d blocks 0 B w

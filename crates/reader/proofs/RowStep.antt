@@ -25,13 +25,13 @@ module _ {sizes : Sizes} {top q t many : ℕ} {points prefixes places work B bef
     (K : KnownColumns work places (sizes .d) top t (sizes .block) before) (G : SentColumns prefixes (sizes .prefix) (q + t) many (sizes .d) before columns)
     (W : WeightsOf points (sizes .d) top weights) (R : RowOf sizes top q places points prefixes B) (H : HasPlaces t (t + many) (sizes .block) (sizes .d) top places B work) where
   -- entry k of a party's column is the value of the row of block t + k
-  sent-entry : (k a : ℕ) → k < many → a < sizes .d → getD columns (a * lanes + k) 0 ≡ eval (getD points a 0) (R .row (t + k))
+  pub sent-entry : (k a : ℕ) → k < many → a < sizes .d → getD columns (a * lanes + k) 0 ≡ eval (getD points a 0) (R .row (t + k))
   sent-entry k a hk ha =
       let o : a * sizes .prefix + (q + t) + k ≡ a * sizes .prefix + (q + (t + k)) = omega arith in
       G .sent a k ha hk ∙ ap (λ (x : ℕ). getD prefixes x 0) o ∙ R .sent (t + k) a (omega arith) ha
 
   -- entry k of a known column is the row's coefficient
-  known-entry : (k i : ℕ) → k < many → sizes .d ≤ i → i < top → getD columns (i * lanes + k) 0 ≡ getD (R .row (t + k)) i 0
+  pub known-entry : (k i : ℕ) → k < many → sizes .d ≤ i → i < top → getD columns (i * lanes + k) 0 ≡ getD (R .row (t + k)) i 0
   known-entry k i hk low high =
       G .still (i * lanes + k) (omega arith)
       ∙ K .known i k low high (omega arith)

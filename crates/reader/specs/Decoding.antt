@@ -8,6 +8,7 @@ use Prim.Native.Nat.{ℕ, _+_, _-_, _*_, _≤_, _<_}
 use lib.ListN.{length, getD}
 use Rattle.lists.specs.Each.{Each, Distinct, Byte, occurs}
 use Rattle.lists.specs.Table.{tabulate}
+use Rattle.lists.specs.Without.{withoutPiece}
 use Rattle.gf256.specs.Byte.{_⊗_}
 use Rattle.gf256.specs.Lanes.{lanes}
 use Rattle.interpolation.specs.Polynomial.{eval, sumTo}
@@ -33,6 +34,10 @@ maxUsize = 18446744073709551615
 unfoldable pub combined : List ℕ → List (List ℕ) → ℕ → ℕ → List ℕ
 combined columns weights e n = tabulate lanes (λ k. sumTo n (λ i. getD (getD weights i []) e 0 ⊗ getD columns (i * lanes + k) 0))
 
+-- the same by a list of weights, one a column
+unfoldable pub weighted : List ℕ → List ℕ → ℕ → List ℕ
+weighted columns chosen n = tabulate lanes (λ k. sumTo n (λ i. getD chosen i 0 ⊗ getD columns (i * lanes + k) 0))
+
 -- the columns from degree d up: a row's known coefficients, those of degrees d to top − 1, as they stand in the work buffer
 pub record KnownColumns (work places : List ℕ) (d top t m : ℕ) (columns : List ℕ) : Type 0 where
   pub long : length columns ≡ side * lanes
@@ -56,6 +61,10 @@ Scattered column at step many n w w′ =
     (B : List ℕ) → ((k : ℕ) → k < many → getD column k 0 ≡ getD B (at + k * step) 0) → WroteFrom B w w′ n (λ k. at + k * step)
 
 -- ---- one row, of what is read in these sizes
+
+-- the prefixes that are read: all that are lent but the one that is passed over
+abbrev pub readBy : Sizes → List ℕ → List ℕ
+readBy sizes prefixes = withoutPiece (sizes .prefix) (sizes .skip) prefixes
 
 -- the sizes are within their limits, and those of the prefixes
 pub record SizesFit (sizes : Sizes) (prefixes : List ℕ) : Type 0 where
@@ -120,6 +129,10 @@ sentRows s d = rowsOfCount (s .block) (s .z) d
 -- the bytes of d prefixes
 abbrev pub sentBytes : Scheme → ℕ → ℕ → ℕ
 sentBytes s d blocks = d * (sentRows s d * blocks)
+
+-- the prefixes that are read, without the one at place `skip`
+abbrev pub readFrom : Scheme → ℕ → ℕ → ℕ → List ℕ → List ℕ
+readFrom s d blocks skip prefixes = withoutPiece (sentRows s d * blocks) skip prefixes
 
 -- the scheme is accepted, and d is one of its counts
 pub record Counted (s : Scheme) (ds : List ℕ) (d : ℕ) : Type 0 where

@@ -2,6 +2,9 @@ pub mod Basis
 pub mod Reconstruct
 pub mod Range
 pub mod Decoding
+pub mod Filling
+pub mod Rebuild
+pub mod Agreeing
 pub mod Ending
 pub mod Opening
 pub mod ReconstructPadded

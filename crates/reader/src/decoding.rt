@@ -4,6 +4,7 @@
 ghost use mathlib.Core.Path.{_≡_};
 ghost use Prim.Native.Nat.{ℕ, _+_, _*_, _≤_, _<_};
 ghost use lib.ListN.{length, getD};
+ghost use Rattle.lists.specs.Without.{skipped};
 ghost use Rattle.gf256.specs.Lanes.{lanes};
 ghost use Rattle.interpolation.specs.Interpolation.{side};
 ghost use Rattle.reader.specs.Decoding as decoding;
@@ -31,7 +32,7 @@ fn scatter(column: [u8; LANES], at: usize, step: usize, many: usize, work: &mut 
 
 // Writes the columns of the row's coefficients from degree d up, of which there are `top` in all, to
 // their places in the buffer of columns: they are found already and stand in the work buffer.
-fn known(
+pub(crate) fn known(
     work: &[u8],
     places: &[usize; SIDE],
     d: usize,
@@ -52,14 +53,26 @@ fn known(
     }
 }
 
-// The sizes of what is read: the keys of a row, the number of parties, the block length, the blocks and
-// the bytes of a prefix.
-struct Sizes {
-    z: usize,
-    d: usize,
-    block: usize,
-    blocks: usize,
-    prefix: usize,
+// The sizes of what is read: the keys of a row, the number of parties, the block length, the blocks, the
+// bytes of a prefix, and the place of the prefix that is passed over, which is past them where none is.
+pub(crate) struct Sizes {
+    pub(crate) z: usize,
+    pub(crate) d: usize,
+    pub(crate) block: usize,
+    pub(crate) blocks: usize,
+    pub(crate) prefix: usize,
+    pub(crate) skip: usize,
+}
+
+// The place of the prefix that is read as number a where the one at place `skip` is passed over.
+pub(crate) fn place_of(skip: usize, a: usize) -> usize
+    requires { ⌜ a < side ⌝ }
+    ensures { λ r. ⌜ r ≡ skipped skip a ⌝ }
+{
+    if a < skip {
+        return a;
+    }
+    a + 1
 }
 
 // Copies bytes of a prefix into a column, and counts them.
@@ -73,7 +86,7 @@ fn load(from: &[u8], used: &mut usize, out: &mut [u8])
 
 // Writes the bytes of d parties from place q of their prefixes on, `many` of them, to the first d
 // columns of the buffer. Those from d up stay: they are the known ones.
-fn load_parties(
+pub(crate) fn load_parties(
     sizes: Sizes,
     prefixes: &[u8],
     q: usize,
@@ -81,16 +94,17 @@ fn load_parties(
     used: &mut usize,
     columns: &mut [u8],
 )
-    requires input { ⌜ decoding.SizesFit sizes (now prefixes) × (length (now columns) ≡ side * lanes) ⌝ }
+    requires input { ⌜ decoding.SizesFit sizes (decoding.readBy sizes (now prefixes)) × (length (now columns) ≡ side * lanes) ⌝ }
     requires batch { ⌜ (many ≤ lanes) × (q + many ≤ sizes .prefix) × (now used + sizes .d * many ≤ decoding.maxUsize) ⌝ }
     ensures counted { λ _. ⌜ now (used .exit) ≡ now (used .entry) + sizes .d * many ⌝ }
-    ensures loaded { λ _. ⌜ decoding.SentColumns (now (prefixes .entry)) (sizes .prefix) q many (sizes .d) (now (columns .entry)) (now (columns .exit)) ⌝ }
+    ensures loaded { λ _. ⌜ decoding.SentColumns (decoding.readBy sizes (now (prefixes .entry))) (sizes .prefix) q many (sizes .d) (now (columns .entry)) (now (columns .exit)) ⌝ }
 {
     let d = sizes.d;
     let prefix = sizes.prefix;
+    let skip = sizes.skip;
     let mut a = 0;
     while a < d {
-        let at = a * prefix + q;
+        let at = place_of(skip, a) * prefix + q;
         let after = at + many;
         let from = a * LANES;
         let end = from + many;
@@ -115,10 +129,10 @@ fn decode_batch(
     columns: &mut [u8],
     work: &mut [u8],
 )
-    requires input { ⌜ decoding.SizesFit sizes (now prefixes) × decoding.RowFits sizes top q (now places) × (length (now columns) ≡ side * lanes) × (length (now work) ≡ sizes .blocks * sizes .block) ⌝ }
+    requires input { ⌜ decoding.SizesFit sizes (decoding.readBy sizes (now prefixes)) × decoding.RowFits sizes top q (now places) × (length (now columns) ≡ side * lanes) × (length (now work) ≡ sizes .blocks * sizes .block) ⌝ }
     requires batch { ⌜ (many ≤ lanes) × (t + many ≤ sizes .blocks) × (now used + sizes .d * many ≤ decoding.maxUsize) ⌝ }
     ensures counted { λ _. ⌜ now (used .exit) ≡ now (used .entry) + sizes .d * many ⌝ }
-    ensures solved { λ _. ⌜ Solves sizes top q (now (places .entry)) (now (weights .entry)) (now (prefixes .entry)) t (t + many) (now (work .entry)) (now (work .exit)) ⌝ }
+    ensures solved { λ _. ⌜ Solves sizes top q (now (places .entry)) (now (weights .entry)) (decoding.readBy sizes (now (prefixes .entry))) t (t + many) (now (work .entry)) (now (work .exit)) ⌝ }
 {
     let z = sizes.z;
     let d = sizes.d;
@@ -145,10 +159,10 @@ fn decode_row(
     used: &mut usize,
     work: &mut [u8],
 )
-    requires input { ⌜ decoding.SizesFit sizes (now prefixes) × decoding.RowFits sizes top q (now places) × (length (now work) ≡ sizes .blocks * sizes .block) ⌝ }
+    requires input { ⌜ decoding.SizesFit sizes (decoding.readBy sizes (now prefixes)) × decoding.RowFits sizes top q (now places) × (length (now work) ≡ sizes .blocks * sizes .block) ⌝ }
     requires counter { ⌜ now used + sizes .d * sizes .blocks ≤ decoding.maxUsize ⌝ }
     ensures counted { λ _. ⌜ now (used .exit) ≡ now (used .entry) + sizes .d * sizes .blocks ⌝ }
-    ensures solved { λ _. ⌜ Solves sizes top q (now (places .entry)) weights (now (prefixes .entry)) 0 (sizes .blocks) (now (work .entry)) (now (work .exit)) ⌝ }
+    ensures solved { λ _. ⌜ Solves sizes top q (now (places .entry)) weights (decoding.readBy sizes (now (prefixes .entry))) 0 (sizes .blocks) (now (work .entry)) (now (work .exit)) ⌝ }
 {
     let blocks = sizes.blocks;
     let mut columns = [0u8; FLAT];
@@ -173,21 +187,23 @@ fn decode_row(
 }
 
 // Decodes the rows of the first turns in the reader's order, `many` of them, from the prefixes of d parties, P × N bytes
-// each and one after another, into the work buffer of N whole blocks. A row's origins are found once for all blocks. The
-// answer is the number of the prefixes' bytes that were used.
+// each and one after another, into the work buffer of N whole blocks. The prefix at place `skip` is passed over: there is
+// one more then, or none is where it is d. A row's origins are found once for all blocks. The answer is the number of the
+// prefixes' bytes that were used.
 pub(crate) fn decode(
     s: Scheme,
     counts: &[u8],
     d: usize,
+    skip: usize,
     blocks: usize,
     many: usize,
     weights: [[u8; SIDE]; SIDE],
     prefixes: &[u8],
     work: &mut [u8],
 ) -> usize
-    requires { ⌜ decoding.Input s (now counts) d blocks (now prefixes) × (many ≤ decoding.sentRows s d) × (length (now work) ≡ blocks * s .block) ⌝ }
+    requires { ⌜ decoding.Input s (now counts) d blocks (decoding.readFrom s d blocks skip (now prefixes)) × (many ≤ decoding.sentRows s d) × (length (now work) ≡ blocks * s .block) ⌝ }
     ensures counted { λ used. ⌜ used ≡ d * (many * blocks) ⌝ }
-    ensures found { λ _. ⌜ decoding.EachSent s (now (counts .entry)) d blocks weights (now (prefixes .entry)) (λ B. decoding.Found s (now (counts .entry)) d blocks many B (now (work .exit))) ⌝ }
+    ensures found { λ _. ⌜ decoding.EachSent s (now (counts .entry)) d blocks weights (decoding.readFrom s d blocks skip (now (prefixes .entry))) (λ B. decoding.Found s (now (counts .entry)) d blocks many B (now (work .exit))) ⌝ }
 {
     let sizes = Sizes {
         z: s.z as usize,
@@ -195,6 +211,7 @@ pub(crate) fn decode(
         block: s.block,
         blocks,
         prefix: scheme::rows_of_count(s.block, s.z, d) * blocks,
+        skip,
     };
     let groups = order::group_number(counts, d);
     let mut used = 0;

@@ -30,7 +30,7 @@ struct Last {
 }
 
 // 1 where the byte is not 0, else 0.
-fn nonzero(x: u8) -> usize
+pub(crate) fn nonzero(x: u8) -> usize
     ensures { λ r. ⌜ r ≡ cond (eqb x 0) 0 1 ⌝ }
 {
     (wide(x) + 255) / 256

@@ -1,8 +1,8 @@
 // Secret sharing by staircase polynomials over bytes: all of the library's calls under one name, with the demands
 // that they meet together as theorems and the worked examples of the rules. A message is split into shares (`dealer`),
 // under keys that are lent with it or the next ones of a pool (`key_pool`), a party hands out the prefix of its share
-// (`party`), and the readers find their Lagrange basis and the message again (`reader`), or only a range of it. The calls
-// on a message that shows its own end, by its padding, have `padded` in their names.
+// (`party`), and the readers find their Lagrange basis and the message again (`reader`), or only a range of it, or the share
+// of a party that lost it. The calls on a message that shows its own end, by its padding, have `padded` in their names.
 pub use dealer::split;
 pub use dealer::split_default;
 pub use dealer::split_padded;
@@ -21,10 +21,13 @@ pub use party::prefix_padded_default;
 pub use party::prefix_padded_length;
 pub use party::prefix_padded_length_default;
 pub use reader::PaddedAnswer;
+pub use reader::RebuildAnswer;
 pub use reader::basis;
 pub use reader::basis_default;
 pub use reader::basis_size;
 pub use reader::basis_size_default;
+pub use reader::rebuild;
+pub use reader::rebuild_default;
 pub use reader::reconstruct;
 pub use reader::reconstruct_default;
 pub use reader::reconstruct_padded;

@@ -7,22 +7,25 @@ use Prim.Native.Nat.{ℕ, _+_, _-_, _*_, _≤_}
 use native.Mathlib.Omega.{arith}
 use lib.ListN.{length, replicate, length-replicate}
 use borrow.Author.Needs.{needs}
+use Rattle.lists.specs.Without.{withoutPiece}
 use Rattle.interpolation.specs.Interpolation.{side}
 use Rattle.rows.specs.Sources.{RowOrigins}
 use Rattle.order.proofs.ReadingOrder.{code-turn}
-use Rattle.reader.specs.Decoding.{maxUsize, sentRows, EachSent, Found}
-use Rattle.reader.proofs.CountedScheme.{prefix-few}
-use Rattle.reader.proofs.RowOrder.{counted-none, counted-more, TurnAt, top, row-places, sizes-fit, row-fits, row-done, found-none}
+use Rattle.reader.specs.Decoding.{maxUsize, sentRows, readFrom, EachSent, Found}
+use Rattle.reader.proofs.CountedScheme.{prefix-few, sent-few}
+use Rattle.reader.proofs.Skips.{input-at, sent-at}
+use Rattle.reader.proofs.RowFacts.{top, row-places, sizes-fit, row-fits}
+use Rattle.reader.proofs.RowOrder.{counted-none, counted-more, TurnAt, row-at, row-done, found-none}
 use Rattle.reader.proofs.decoding.decode.Statement.{statement}
 use Rattle.reader.proofs.decoding.decode.Tie as tie
 
 abbrev Inv-loop : tie.InvT-loop
-Inv-loop s counts d blocks many weights prefixes work₀ sizes groups used₀ turn₀ work used turn =
+Inv-loop s counts d skip blocks many weights prefixes work₀ sizes groups used₀ turn₀ work used turn =
     (turn ≤ many) × (used ≡ d * (turn * blocks)) × (length work ≡ length work₀)
-    × EachSent s counts d blocks weights prefixes (λ B. Found s counts d blocks turn B work)
+    × EachSent s counts d blocks weights (readFrom s d blocks skip prefixes) (λ B. Found s counts d blocks turn B work)
 
 abbrev μ-loop : tie.MeasureT-loop
-μ-loop s counts d blocks many weights prefixes work₀ sizes groups used₀ turn₀ work used turn = many - turn
+μ-loop s counts d skip blocks many weights prefixes work₀ sizes groups used₀ turn₀ work used turn = many - turn
 
 abbrev start : tie.After-group-number Inv-loop μ-loop → tie.Start Inv-loop μ-loop
 start c = c .before .before .before .before .before .before
@@ -41,11 +44,15 @@ module _ (c : tie.After-row-in-turn Inv-loop μ-loop) where
   abbrev P : ℕ
   P = g .before .rows-of-count .result
 
-  row : TurnAt (st .args .s) (st .args .counts .now) (st .args .d) (st .args .blocks) (st .args .prefixes .now) P (i .before .loop .turn) (c .row-in-turn .result)
+  P-is : _≡_ {A = ℕ} P (sentRows (st .args .s) (st .args .d))
+  P-is = g .before .rows-of-count .ensures
+
+  row : TurnAt (st .args .s) (st .args .counts .now) (st .args .d) (st .args .skip) (st .args .blocks)
+      (withoutPiece (P * st .args .blocks) (st .args .skip) (st .args .prefixes .now)) P (i .before .loop .turn) (c .row-in-turn .result)
   row =
       record {
-        input = st .pre .0;
-        P-is = g .before .rows-of-count .ensures;
+        input = input-at (st .args .skip) (st .args .prefixes .now) P-is (st .pre .0);
+        P-is = P-is;
         here = omega (arith, i .loop-test .taken, st .pre .1);
         row-is = code-turn _ _ _ _ _ _ _ (g .group-number .ensures) (c .row-in-turn .ensures);
       }
@@ -55,7 +62,7 @@ module _ (c : tie.After-row-in-turn Inv-loop μ-loop) where
       × (i .before .loop .used + st .args .d * st .args .blocks ≤ maxUsize)
   counted =
       counted-more (st .args .d) (st .args .blocks) (i .before .loop .used) (i .before .loop .turn) (sentRows (st .args .s) (st .args .d)) maxUsize
-      (row .here) (i .before .loop .inv .1) (omega (arith, st .pre .0 .prefixes-long))
+      (row .here) (i .before .loop .inv .1) (omega (arith, sent-few (st .pre .0)))
 
 -- the places are the origins of its coefficients
 module _ (c : tie.After-row-origins Inv-loop μ-loop) where
@@ -65,14 +72,14 @@ module _ (c : tie.After-row-origins Inv-loop μ-loop) where
   abbrev places : List ℕ
   places = c .row-origins .last .1 .1 .1 .1 .0
 
-  origins : RowOrigins (st at-row .args .s .block) (st at-row .args .s .z) (st at-row .args .counts .now) (at-row .row-in-turn .result) (top (row at-row)) places
+  origins : RowOrigins (st at-row .args .s .block) (st at-row .args .s .z) (st at-row .args .counts .now) (at-row .row-in-turn .result) (top (row-at (row at-row))) places
   origins =
       let a = st at-row .args in
-      subst (λ (written : List ℕ). RowOrigins (a .s .block) (a .s .z) (a .counts .now) (at-row .row-in-turn .result) (top (row at-row)) written)
+      subst (λ (written : List ℕ). RowOrigins (a .s .block) (a .s .z) (a .counts .now) (at-row .row-in-turn .result) (top (row-at (row at-row))) written)
       (sym (c .row-origins .ensures .1))
-      (row-places (row at-row) (replicate side 0) (length-replicate {A = ℕ} side 0))
+      (row-places (row-at (row at-row)) (replicate side 0) (length-replicate {A = ℕ} side 0))
 
-  top-is : _≡_ {A = ℕ} (c .row-origins .result) (top (row at-row))
+  top-is : _≡_ {A = ℕ} (c .row-origins .result) (top (row-at (row at-row)))
   top-is = c .row-origins .ensures .0
 
 pub decode-spec : {M : Type 1} → statement M
@@ -92,11 +99,11 @@ decode-spec =
     (λ c.
     let o = c .before in
     let R = row (at-row o) in
-    omega (arith, row-fits R (origins o) .inside, prefix-few (R .input) (P (at-row o)) (R .P-is)))
+    omega (arith, row-fits (row-at R) (origins o) .inside, prefix-few (R .input) (P (at-row o)) (R .P-is)))
     (λ c κs.
     let o = c .before .before .before .before in
     let k = at-row o in
-    ((sizes-fit (row k), rw (top-is o) (row-fits (row k) (origins o)), i k .before .loop .inv .2 ∙ st k .pre .2), counted k .1))
+    ((sizes-fit (row-at (row k)), rw (top-is o) (row-fits (row-at (row k)) (origins o)), i k .before .loop .inv .2 ∙ st k .pre .2), counted k .1))
     (λ c.
     let k = at-row (c .before .before .before .before .before .before .before) in
     omega (arith, i k .loop-test .taken, st k .fits .many))
@@ -113,7 +120,7 @@ decode-spec =
       v .decode-row .kept .1 .1 .1 .1 .1 .1 .1 .0 ∙ l .inv .2,
       λ B K points W X.
           row-done (row k) (origins o) (l .work) (v .decode-row .last .1 .1 .1 .1 .1 .1 .1 .0) (st k .args .weights)
-          (rw (top-is o) at (v .decode-row .ensures .1)) B K points W X (l .inv .3 B K points W X),
+          (rw (top-is o) at (v .decode-row .ensures .1)) B K points W (sent-at (st k .args .skip) (st k .args .prefixes .now) (P-is k) X) (l .inv .3 B K points W X),
     ))
     (λ c. c .before .loop .inv .2)
     (λ c.

@@ -11,7 +11,7 @@ use borrow.Author.Needs.{needs}
 use Rattle.gf256.specs.Lanes.{lanes}
 use Rattle.interpolation.specs.Interpolation.{side}
 use Rattle.columns.proofs.Laws.{batch-fits}
-use Rattle.reader.specs.Decoding.{maxUsize, WeightsOf, RowOf, HasPlaces, Solved}
+use Rattle.reader.specs.Decoding.{maxUsize, readBy, WeightsOf, RowOf, HasPlaces, Solved}
 use Rattle.reader.proofs.Writes.{solved-start, solved-batch}
 use Rattle.reader.proofs.decoding.decode_row.Statement.{statement}
 use Rattle.reader.proofs.decoding.decode_row.Tie as tie
@@ -19,7 +19,7 @@ use Rattle.reader.proofs.decoding.decode_row.Tie as tie
 abbrev Inv-loop : tie.InvT-loop
 Inv-loop sizes prefixes places top q used₀ work₀ weights blocks columns₀ t₀ used work columns t =
     (t ≤ blocks) × (used ≡ used₀ + sizes .d * t) × (length work ≡ length work₀) × (length columns ≡ side * lanes)
-    × ((B points : List ℕ) → WeightsOf points (sizes .d) top weights → RowOf sizes top q places points prefixes B
+    × ((B points : List ℕ) → WeightsOf points (sizes .d) top weights → RowOf sizes top q places points (readBy sizes prefixes) B
     → HasPlaces 0 (sizes .blocks) (sizes .block) (sizes .d) top places B work₀
     → Solved 0 t (sizes .block) (sizes .z) (sizes .d) places B work₀ work)
 

@@ -18,6 +18,7 @@ use Rattle.reader.specs.declared.ending.Ending.the-variants.{Told, Sough
 use Rattle.reader.specs.Decoding.{Found}
 use Rattle.reader.specs.Ending.{CanSeek, EndBy, OpenedBy, SeeksIn, TurnsReach}
 use Rattle.reader.proofs.CountedScheme.{A}
+use Rattle.reader.proofs.Skips.{all-read, all-sent}
 use Rattle.reader.proofs.RowOrder.{found-all, found-copied}
 use Rattle.reader.proofs.opening.open_into.Statement.{statement}
 use Rattle.reader.proofs.opening.open_into.Tie as tie
@@ -64,19 +65,19 @@ part-long c =
 
 decoded-long : (c : tie.After-decode)
     → let a = c .before .before .before .before .before .before .before .args in
-    length (c .decode .last .1 .1 .1 .1 .1 .1 .1 .0) ≡ a .blocks * a .s .block
-decoded-long c = c .decode .kept .1 .1 .1 .1 .1 .1 .1 .0 ∙ part-long (c .before)
+    length (c .decode .last .1 .1 .1 .1 .1 .1 .1 .1 .0) ≡ a .blocks * a .s .block
+decoded-long c = c .decode .kept .1 .1 .1 .1 .1 .1 .1 .1 .0 ∙ part-long (c .before)
 
 begin-long : (c : tie.After-decode)
     → let a = c .before .before .before .before .before .before .before .args in
     let n = a .blocks * a .s .block in
-    length (take n (c .decode .last .1 .1 .1 .1 .1 .1 .1 .0 ++ drop n (a .work .now))) ≡ n
-begin-long c = ap length (take-at (c .decode .last .1 .1 .1 .1 .1 .1 .1 .0) _ _ (decoded-long c)) ∙ decoded-long c
+    length (take n (c .decode .last .1 .1 .1 .1 .1 .1 .1 .1 .0 ++ drop n (a .work .now))) ≡ n
+begin-long c = ap length (take-at (c .decode .last .1 .1 .1 .1 .1 .1 .1 .1 .0) _ _ (decoded-long c)) ∙ decoded-long c
 
 -- the whole buffer after it: the range is inside
 work-room : (c : tie.After-decode)
     → let a = c .before .before .before .before .before .before .before .args in
-    a .start + length (a .out .now) ≤ length (c .decode .last .1 .1 .1 .1 .1 .1 .1 .0 ++ drop (a .blocks * a .s .block) (a .work .now))
+    a .start + length (a .out .now) ≤ length (c .decode .last .1 .1 .1 .1 .1 .1 .1 .1 .0 ++ drop (a .blocks * a .s .block) (a .work .now))
 work-room c =
     let s = c .before .before .before .before .before .before .before in
     rw (length-append, decoded-long c) (omega (arith, s .pre .0 .2))
@@ -90,7 +91,7 @@ open-into-spec =
     (λ c. sym (part-long c))
     (λ c κs.
     let s = c .before .before .before .before .before .before in
-    (s .pre .0 .0, s .pre .1 .within, part-long c))
+    (all-read (s .pre .0 .0), s .pre .1 .within, part-long c))
     (λ c. search needs)
     (λ c. sym (begin-long (c .before .before .before)))
     (λ c κs.
@@ -107,8 +108,8 @@ open-into-spec =
     let a = s .args in (
       d .decode .ensures .0,
       λ B K points W X.
-          opened-none (a .how) (a .s) (a .counts .now) (a .d) (a .blocks) (a .many) (a .start) (d .decode .last .1 .1 .1 .1 .1 .1 .1 .0) _ B (a .out .now) (e .end-by .result)
-          (s .pre .1) (d .decode .ensures .1 B K points W X) (s .pre .0 .2) (X .blocks-are .0) (decoded-long d) (s .pre .0 .3) (e .end-by .ensures) (c .enum-told .given .1),
+          opened-none (a .how) (a .s) (a .counts .now) (a .d) (a .blocks) (a .many) (a .start) (d .decode .last .1 .1 .1 .1 .1 .1 .1 .1 .0) _ B (a .out .now) (e .end-by .result)
+          (s .pre .1) (d .decode .ensures .1 B K points W (all-sent (s .pre .0 .0) X)) (s .pre .0 .2) (X .blocks-are .0) (decoded-long d) (s .pre .0 .3) (e .end-by .ensures) (c .enum-told .given .1),
     ))
     (λ c. omega (arith, work-room (c .before .before .before .before .before .before .before)))
     (λ c. omega (arith, work-room (c .before .before .before .before .before .before .before .before)))
@@ -116,7 +117,7 @@ open-into-spec =
     (λ c κs.
     let d = c .before .before .before .before .before .before .before .before .before .before in
     let a = d .before .before .before .before .before .before .before .args in
-    rest-room (a .start) (length (a .out .now)) (d .decode .last .1 .1 .1 .1 .1 .1 .1 .0 ++ drop (a .blocks * a .s .block) (a .work .now)) (work-room d))
+    rest-room (a .start) (length (a .out .now)) (d .decode .last .1 .1 .1 .1 .1 .1 .1 .1 .0 ++ drop (a .blocks * a .s .block) (a .work .now)) (work-room d))
     (λ c. search needs)
     (λ c. search needs)
     (λ c.
@@ -128,7 +129,7 @@ open-into-spec =
     let a = s .args in (
       d .decode .ensures .0,
       λ B K points W X.
-          opened-some (a .how) (a .s) (a .counts .now) (a .d) (a .blocks) (a .many) (a .start) (d .decode .last .1 .1 .1 .1 .1 .1 .1 .0) _ B (a .out .now) (e .end-by .result)
-          (s .pre .1) (d .decode .ensures .1 B K points W X) (s .pre .0 .2) (X .blocks-are .0) (decoded-long d) (s .pre .0 .3) (e .end-by .ensures) _ _ (k .before .end .given .1)
+          opened-some (a .how) (a .s) (a .counts .now) (a .d) (a .blocks) (a .many) (a .start) (d .decode .last .1 .1 .1 .1 .1 .1 .1 .1 .0) _ B (a .out .now) (e .end-by .result)
+          (s .pre .1) (d .decode .ensures .1 B K points W (all-sent (s .pre .0 .0) X)) (s .pre .0 .2) (X .blocks-are .0) (decoded-long d) (s .pre .0 .3) (e .end-by .ensures) _ _ (k .before .end .given .1)
           (f .copy .ensures ∙ ap (take (length (a .out .now))) (part-to-end _ (a .start))),
     )))
