@@ -30,8 +30,8 @@
  *
  * Every call returns, whatever numbers, bytes and lengths it is given; no pointer may be NULL, not even
  * beside the length 0. `refusal` is 0 when it was accepted; otherwise it is the first of these numbers
- * that applies (15 is looked at before 9, 16 before 10, and 10 by archive_write alone last), every other
- * field is 0 but for `tried` beside refusal 4, and nothing was written:
+ * that applies (15 and 17 are looked at before 9, 16 before 10, and 10 by archive_write alone last), every
+ * other field is 0 but for `tried` beside refusal 4 and `party` beside refusal 18, and nothing was written:
  *
  *    1  n is below 2 or above 16
  *    2  z is 0, or r + z is n or more
@@ -39,10 +39,12 @@
  *    4  the block length m is above 840
  *    5  the message is longer than 16,384 bytes
  *    6  the number of parties to read from, d, is not one of the counts
- *    7  the parties do not rise strictly, or one is not from 1 to n
+ *    7  the parties do not rise strictly, or one is not from 1 to n, the one to rebuild included
  *    8  the keys do not have N x z x b bytes
  *    9  the share does not have N x b bytes, or the prefixes together d x m / (d - z) x N; of a padded
- *       message: no N from 1 to 16,384 / m (rounded down) + 1 gives this length
+ *       message: no N from 1 to 16,384 / m (rounded down) + 1 gives this length. Rebuilding a share: the
+ *       shares together do not have N x b bytes from each party for any N from 0 to there, or the held copy
+ *       is neither empty nor N x b bytes long
  *   10  the output does not have the length that the call writes
  *   11  the prefixes do not end as a padded message of at most 16,384 bytes does: in the last block the
  *       last byte other than 0 is not 128, or there is none, or it stands too late. A wrong share, scheme
@@ -57,6 +59,8 @@
  *       wrap around)
  *   16  the pool's record says another length than pool_bytes_length, or its position is past it, or fewer
  *       bytes are left, length - position, than the N x z x b that the split takes (no sum wraps around)
+ *   17  there are fewer shares than n - r
+ *   18  the shares do not agree: no blocks and keys give them all
  *
  * What the caller owes, since nothing here can check it: a pointer is not NULL; as many bytes as its
  * length says stand behind it, or as many numbers behind `lengths`, and no other thread changes them
@@ -313,6 +317,41 @@ sharing_answer sharing_split_from_pool(
 sharing_answer sharing_split_from_pool_default(
     sharing_key_pool *pool, const uint8_t *message, size_t message_length,
     const uint8_t *pool_bytes, size_t pool_bytes_length, uint8_t *out, size_t out_length);
+
+/*
+ * A share that was rebuilt: the number of bytes in which the held copy differs from it. Beside refusal 18, where
+ * `differing` is 0, `party` is the one whose share does not fit the others, or 0 where that cannot be told.
+ */
+typedef struct {
+    uint64_t refusal;
+    uint64_t differing;
+    uint64_t party;
+} sharing_rebuild_answer;
+
+/*
+ * Rebuilds the share of one party, exactly as it was split, from whole shares of at least n - r parties, and does
+ * not write the message anywhere. The parties are bytes in rising order, and their shares stand one after another
+ * in that order, N x b bytes each, of a message of either form: N is shares_length / (parties_length x b), from 0
+ * to 16,384 / m (rounded down) + 1. `party` may be one of them or not. `out` has N x b bytes and receives its
+ * share. `held` is a copy of it that is in doubt, or empty: then there is none, and `differing` is 0. Refusals 1 to
+ * 4, 7, 17, 9, 10 and 18, in this order.
+ *
+ * Shares agree if some blocks, whatever their padding, and some keys give them all. Those of n - r parties always
+ * do: nothing is noticed there, and a wrong share among them makes a wrong one. With more, wrong shares are refused,
+ * 18, as long as n - r right ones are among them. With n - r + 2 or more the refusal names a party exactly if all
+ * others agree without its share. There is never more than one such party; where there is none, more than one share
+ * is wrong. Which of two messages is the right one is not told: if all but one are shares of another message, that
+ * one is named.
+ */
+sharing_rebuild_answer sharing_rebuild(
+    uint8_t n, uint8_t r, uint8_t z, const uint8_t *counts, size_t counts_length,
+    const uint8_t *parties, size_t parties_length, const uint8_t *shares, size_t shares_length,
+    uint8_t party, const uint8_t *held, size_t held_length, uint8_t *out, size_t out_length);
+
+/* The same with the default scheme. Refusals 7, 17, 9, 10 and 18. */
+sharing_rebuild_answer sharing_rebuild_default(
+    const uint8_t *parties, size_t parties_length, const uint8_t *shares, size_t shares_length,
+    uint8_t party, const uint8_t *held, size_t held_length, uint8_t *out, size_t out_length);
 
 /*
  * Byte arithmetic of FIPS 197, section 4. Every byte is accepted. The sum, which is the difference too:

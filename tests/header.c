@@ -31,7 +31,7 @@ static void sizes(void) {
     EXPECT(sizeof(sharing_scheme) == 24 && sizeof(sharing_answer) == 16 && sizeof(sharing_basis_answer) == 264);
     EXPECT(sizeof(sharing_padded_answer) == 24 && sizeof(archive_entry_answer) == 24 && sizeof(sharing_tried_scheme) == 32);
     EXPECT(sizeof ((sharing_basis_answer *)0)->weights == 256 && sizeof(sharing_key_pool) == 16);
-    EXPECT(sizeof(gf256_inverse_answer) == 16);
+    EXPECT(sizeof(gf256_inverse_answer) == 16 && sizeof(sharing_rebuild_answer) == 24);
 }
 
 static void arithmetic(void) {
@@ -187,6 +187,52 @@ static void refused_pools(void) {
     }
 }
 
+/*
+ * Of the padded shares, 3 bytes each: any four rebuild the fifth, and any one of themselves. Of a held copy the first byte
+ * and the last one are changed. One wrong share in five is noticed and not named; that takes r of 2 or more.
+ */
+static void rebuilding(void) {
+    const uint8_t third[] = {40, 142, 111}, changed[] = {41, 142, 110}, all[] = {1, 2, 3, 4, 5};
+    uint8_t of_four[12], wrong[15], out[4] = {7, 7, 7, 7};
+    memcpy(of_four, padded_shares, 6);
+    memcpy(of_four + 6, padded_shares + 9, 6);
+    sharing_rebuild_answer a = sharing_rebuild(5, 1, 2, counts, 2, four, 4, of_four, 12, 3, changed, 3, out, 3);
+    EXPECT(a.refusal == 0 && a.differing == 2 && a.party == 0 && memcmp(out, third, 3) == 0 && out[3] == 7);
+    a = sharing_rebuild(5, 1, 2, counts, 2, all, 5, padded_shares, 15, 3, third, 0, out, 3);
+    EXPECT(a.refusal == 0 && a.differing == 0 && a.party == 0 && memcmp(out, third, 3) == 0);
+    a = sharing_rebuild(5, 1, 2, counts, 2, four, 4, of_four, 12, 5, third, 3, out, 3);
+    EXPECT(a.refusal == 0 && a.differing == 3 && a.party == 0 && memcmp(out, padded_shares + 12, 3) == 0);
+    memcpy(wrong, padded_shares, 15);
+    wrong[7] ^= 1;
+    memset(out, 7, 4);
+    a = sharing_rebuild(5, 1, 2, counts, 2, all, 5, wrong, 15, 3, changed, 3, out, 3);
+    EXPECT(a.refusal == 18 && a.differing == 0 && a.party == 0 && out[0] == 7 && out[2] == 7);
+    /* No blocks: neither a share nor a copy has a byte. */
+    a = sharing_rebuild(5, 1, 2, counts, 2, four, 4, of_four, 0, 3, changed, 0, out, 0);
+    EXPECT(a.refusal == 0 && a.differing == 0 && a.party == 0 && out[0] == 7);
+}
+
+/* Alone, and together with what is looked at later. A number of parties that is no count is none of them. */
+static void refused_rebuilding(void) {
+    const uint8_t three[] = {1, 2, 4}, equal[] = {1, 2, 2, 5}, outside[] = {1, 2, 4, 6};
+    const struct { const uint8_t *parties; size_t many, shares, party, held, out, refusal; } refused[] = {
+        {four, 4, 12, 0, 3, 3, 7}, {four, 4, 12, 6, 3, 3, 7}, {equal, 4, 12, 3, 3, 3, 7}, {outside, 4, 12, 3, 3, 3, 7},
+        {three, 3, 9, 3, 3, 3, 17}, {three, 3, 8, 3, 2, 2, 17}, {three, 0, 0, 3, 0, 0, 17}, {three, 3, 9, 6, 3, 3, 7},
+        {four, 4, 11, 3, 3, 3, 9}, {four, 4, 12, 3, 2, 3, 9}, {four, 4, 12, 3, 4, 2, 9}, {four, 4, 0, 3, 3, 0, 9},
+        {four, 4, 12, 3, 3, 2, 10}, {four, 4, 12, 3, 0, 4, 10},
+    };
+    uint8_t out[4] = {7, 7, 7, 7};
+    const uint8_t before[] = {7, 7, 7, 7};
+    for (size_t i = 0; i < sizeof refused / sizeof *refused; i++) {
+        sharing_rebuild_answer a = sharing_rebuild(
+            5, 1, 2, counts, 2, refused[i].parties, refused[i].many, shares, refused[i].shares, refused[i].party,
+            keys, refused[i].held, out, refused[i].out);
+        EXPECT(a.refusal == refused[i].refusal && a.differing == 0 && a.party == 0 && memcmp(out, before, 4) == 0);
+    }
+    sharing_rebuild_answer a = sharing_rebuild(5, 1, 0, counts, 2, three, 3, shares, 8, 6, keys, 2, out, 2);
+    EXPECT(a.refusal == 2 && a.differing == 0 && a.party == 0);
+}
+
 /* Of two refusals that apply the first is answered, alone, and the output stays as it was. */
 static void two_refusals(void) {
     const uint8_t falling[] = {5, 4, 2, 1};
@@ -260,6 +306,28 @@ static void padded_by_default(void) {
     memcpy(prefixes + 36, out + 54, 18);
     sharing_padded_answer p = sharing_reconstruct_padded_default(three, 3, prefixes, 54, opened, 18);
     EXPECT(p.refusal == 0 && p.used == 54 && p.length == 12 && memcmp(opened, text, 12) == 0 && opened[12] == 128);
+}
+
+/* From all five parties a wrong share is named, whichever it is; from four it is noticed, and from three it is not. */
+static void rebuilding_by_default(void) {
+    const uint8_t text[] = "A few words", block_keys[24] = {1, 2, 3, 4, 5, 6}, all[] = {1, 2, 3, 4, 5};
+    uint8_t of_all[60], wrong[60], out[12], before[12];
+    sharing_split_default(text, 12, block_keys, 24, of_all, 60);
+    for (int place = 0; place < 5; place++) {
+        memcpy(wrong, of_all, 60);
+        wrong[12 * place + 7] ^= 32;
+        memset(before, 7, 12);
+        memcpy(out, before, 12);
+        sharing_rebuild_answer a = sharing_rebuild_default(all, 5, wrong, 60, 2, wrong, 12, out, 12);
+        EXPECT(a.refusal == 18 && a.differing == 0 && a.party == all[place] && memcmp(out, before, 12) == 0);
+        a = sharing_rebuild_default(all, 4, wrong, 48, 5, wrong, 0, out, 12);
+        EXPECT(place == 4 || (a.refusal == 18 && a.differing == 0 && a.party == 0 && memcmp(out, before, 12) == 0));
+        EXPECT(place != 4 || (a.refusal == 0 && a.differing == 0 && memcmp(out, of_all + 48, 12) == 0));
+        a = sharing_rebuild_default(all, 3, wrong, 36, 4, of_all + 36, 12, out, 12);
+        EXPECT(a.refusal == 0 && a.party == 0 && (place < 3) == (a.differing > 0));
+    }
+    sharing_rebuild_answer a = sharing_rebuild_default(all, 2, of_all, 24, 5, text, 0, out, 12);
+    EXPECT(a.refusal == 17 && a.differing == 0 && a.party == 0);
 }
 
 /* Two blocks take 24 bytes of the pool, the three of the padded message the next 36, and then none is left. */
@@ -370,10 +438,13 @@ int main(void) {
     padded_openings();
     pools();
     refused_pools();
+    rebuilding();
+    refused_rebuilding();
     two_refusals();
     default_scheme();
     padded_by_default();
     pools_by_default();
+    rebuilding_by_default();
     stored_shares();
     stored_padded_shares();
     archives();

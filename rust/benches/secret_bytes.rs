@@ -16,11 +16,21 @@
 //!
 //! Here the complaints are counted, and the exit status is 0 if each opening had one or two: is there an end, and is it
 //! too late? A branch on the bytes themselves would bring more, the longer the block the more of them.
+//!
+//! So it is of the shares that another is rebuilt from: whether they agree, and who is named where they do not, is for all
+//! to see. Of n - r shares, which always agree, nothing is decided. From these a share is rebuilt in the first run, with a
+//! held copy, and the number of its bytes that differ is shown when it is known. With more shares, all secret, the decisions
+//! are complained about:
+//!
+//!     valgrind rust/target/release/deps/secret_bytes-(hash) agree
+//!
+//! The exit status is 0 if no call had more than one complaint for each share that it compared.
 
 use gilunavoi::cases::archive::WriteCall;
+use gilunavoi::cases::rebuild::{changed, RebuildCall};
 use gilunavoi::cases::{length, parties, Call, Form, Scheme, FORMS};
 use gilunavoi::compare::pool::Split;
-use gilunavoi::library::KeyPool;
+use gilunavoi::library::{KeyPool, NotRebuilt, Rebuilt};
 use gilunavoi::random::Random;
 use gilunavoi::{archive, calls, library};
 use std::arch::asm;
@@ -83,8 +93,34 @@ fn split_from_pool(call: &Call, message: &[u8], keys: &[u8], random: &mut Random
     shares
 }
 
-/// Splits a secret message under secret keys, which makes the shares secret, and opens it again, and a range of it. The
-/// complaints that the opener brought.
+/// Rebuilds a share, and marks what came out as no longer secret. The complaints, and the answer.
+fn rebuild(call: &RebuildCall, out: &mut [u8], random: &mut Random) -> (u64, Rebuilt) {
+    let by_default = call.scheme.is_default() && random.below(2) == 0;
+    let rebuild = if by_default { calls::rebuild_default } else { calls::rebuild };
+    let before = request(COUNT_ERRORS, &[]);
+    let answer = rebuild(call, &call.shares, &call.held, out);
+    let complaints = request(COUNT_ERRORS, &[]) - before;
+    for secret in [&call.shares[..], &call.held, out] {
+        request(MAKE_DEFINED, secret);
+    }
+    (complaints, answer.map(shown))
+}
+
+/// Rebuilds one of these secret shares from as few of them as there may be, with a copy in which some bytes are others.
+fn rebuild_from_few(s: &Scheme, shares: &[u8], random: &mut Random) {
+    let mut call = RebuildCall::drawn(random, s, shares, s.n - s.r);
+    let share = shares[(call.party as usize - 1) * call.out..][..call.out].to_vec();
+    let many = random.below(call.out + 1);
+    call.held = changed(random, &share, many);
+    let mut out = vec![0; call.out];
+    let (_, answer) = rebuild(&call, &mut out, random);
+    request(MAKE_DEFINED, &share);
+    assert_eq!(answer, Ok(many as u64));
+    assert!(out == share);
+}
+
+/// Splits a secret message under secret keys, which makes the shares secret, opens it again, and a range of it, and rebuilds
+/// a share. The complaints that the opener brought.
 fn split_and_reconstruct(call: &Call, secret: Secret, random: &mut Random) -> u64 {
     let (message, keys) = (random.bytes(call.length), random.bytes(call.keys));
     let (mut shares, mut opened) = (vec![0; call.shares], vec![0; call.message]);
@@ -106,6 +142,7 @@ fn split_and_reconstruct(call: &Call, secret: Secret, random: &mut Random) -> u6
     let answer = answer.map(|(used, length)| (used, shown(length)));
     assert_eq!(answer, Ok((call.prefixes as u64, call.length as u64)));
     let (start, range) = reconstruct_range(call, &prefixes, random);
+    rebuild_from_few(&call.scheme, &shares, random);
     for secret in [&message, &keys, &shares, &from_pool, &prefixes, &opened, &range] {
         request(MAKE_DEFINED, secret);
     }
@@ -154,19 +191,53 @@ fn count_decisions(random: &mut Random) {
     println!("{openings} openings of padded messages, {all} complaints");
 }
 
+/// With more shares than n - r, all of them secret, the decisions are complained about: does this share fit? Of all that
+/// are given, and where they do not agree, once more without each of them.
+fn count_comparisons(random: &mut Random) {
+    let (mut calls, mut all) = (0, 0);
+    calls_of(Form::Padded, random, |call, random| {
+        let s = &call.scheme;
+        // Once for each message.
+        if call.d != (s.n - s.r) as usize {
+            return;
+        }
+        let (message, keys, mut shares) = (random.bytes(call.length), random.bytes(call.keys), vec![0; call.shares]);
+        assert_eq!(calls::split(call, &message, &keys, &mut shares), Ok(call.share as u64));
+        for (many, wrong) in (s.n - s.r + 1..=s.n).flat_map(|many| [(many, false), (many, true)]) {
+            let mut lent = RebuildCall::drawn(random, s, &shares, many);
+            let (spare, place) = (lent.spare() as u64, random.below(many as usize));
+            if wrong {
+                lent.damage_share(place, random);
+            }
+            request(MAKE_UNDEFINED, &lent.shares);
+            let (complaints, answer) = rebuild(&lent, &mut vec![0; lent.out], random);
+            let party = Some(lent.parties[place]).filter(|_| spare >= 2);
+            assert_eq!(answer, if wrong { Err(NotRebuilt { refusal: 18, party }) } else { Ok(0) });
+            let most = spare + if party.is_some() && wrong { many as u64 * (spare - 1) } else { 0 };
+            assert!((1..=most).contains(&complaints), "{complaints} complaints, {lent:?}");
+            calls += 1;
+            all += complaints;
+        }
+    });
+    println!("{calls} calls with more shares than are needed, {all} complaints");
+}
+
 fn main() {
     println!("under valgrind: {}", request(RUNNING_ON_VALGRIND, &[]) == 1);
     let mut random = Random::new(1);
     let argument = std::env::args().nth(1).unwrap_or_default();
-    if argument == "end" {
-        return count_decisions(&mut random);
+    match &argument[..] {
+        "end" => return count_decisions(&mut random),
+        "agree" => return count_comparisons(&mut random),
+        _ => {}
     }
     for form in FORMS {
         calls_of(form, &mut random, |call, random| {
             split_and_reconstruct(call, Secret::AllButTheLastBlock, random);
         });
     }
-    println!("200 messages in both forms, split, from a pool too, and opened for every count, in the earlier form also a range");
+    println!("200 messages in both forms, split, from a pool too, and opened for every count, in the earlier form also a range,");
+    println!("and a share of each rebuilt from as few as there may be");
     (0..100).for_each(|count| write_and_look_up(count, &mut random));
     println!("archives of up to 99 shares, written and taken apart");
     if argument == "control" {

@@ -1,7 +1,7 @@
 //! What splitting and reconstructing cost: the proved library in both forms of message, an obvious program with tables, and
 //! libgfshare where it is installed; and what archives cost, beside copying. All take turns in one process. What keys from a
-//! pool cost, a range of a message and the check of a scheme come last, and alone with the arguments `pool`, `range` and
-//! `check`:
+//! pool cost, a range of a message, rebuilding a share and the check of a scheme come last, and alone with the arguments
+//! `pool`, `range`, `rebuild` and `check`:
 //!
 //!     cargo bench --offline --manifest-path rust/Cargo.toml --bench speed -- range
 
@@ -30,6 +30,8 @@ mod measure;
 mod pool;
 #[path = "speed/range.rs"]
 mod range;
+#[path = "speed/rebuild.rs"]
+mod rebuild;
 #[path = "speed/tables.rs"]
 mod tables;
 
@@ -176,7 +178,8 @@ faster than libgfshare
 type Table = fn(&mut Random) -> String;
 
 /// The tables that an argument asks for alone.
-const LAST_TABLES: [(&str, Table); 3] = [("pool", pool::table), ("range", range::table), ("check", check::table)];
+const LAST_TABLES: [(&str, Table); 4] =
+    [("pool", pool::table), ("range", range::table), ("rebuild", rebuild::table), ("check", check::table)];
 
 fn main() {
     let mut random = Random::new(1);

@@ -1,7 +1,8 @@
 //! Calls of the proved library with a call's scheme, or with the default one, in its form of message.
 
+use crate::cases::rebuild::RebuildCall;
 use crate::cases::{Call, Form};
-use crate::library::{self, Answer, KeyPool, PaddedAnswer};
+use crate::library::{self, Answer, KeyPool, PaddedAnswer, Rebuilt};
 
 pub fn split(call: &Call, message: &[u8], keys: &[u8], out: &mut [u8]) -> Answer {
     let s = &call.scheme;
@@ -84,4 +85,14 @@ pub fn reconstruct_range(call: &Call, prefixes: &[u8], out: &mut [u8]) -> Answer
 
 pub fn reconstruct_range_default(call: &Call, prefixes: &[u8], out: &mut [u8]) -> Answer {
     library::reconstruct_range_default(call.length, call.start, call.range_length, &call.parties, prefixes, out)
+}
+
+/// Rebuilds a share. The bytes of shares and held copy may stand elsewhere than in the call.
+pub fn rebuild(call: &RebuildCall, shares: &[u8], held: &[u8], out: &mut [u8]) -> Rebuilt {
+    let s = &call.scheme;
+    library::rebuild(s.n, s.r, s.z, &s.counts, &call.parties, shares, call.party, held, out)
+}
+
+pub fn rebuild_default(call: &RebuildCall, shares: &[u8], held: &[u8], out: &mut [u8]) -> Rebuilt {
+    library::rebuild_default(&call.parties, shares, call.party, held, out)
 }

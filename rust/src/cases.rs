@@ -5,6 +5,8 @@ use crate::random::Random;
 use crate::reference;
 
 pub mod archive;
+pub mod faults;
+pub mod rebuild;
 
 /// A scheme. One that `new` or `drawn` makes is accepted, with the block length m and the rows b of a block; they stay
 /// as they are when a test changes the rest.
@@ -105,29 +107,6 @@ pub fn all_schemes() -> Vec<Scheme> {
     falling_lists(|n, r, z, counts| schemes.extend(Scheme::new(n, r, z, counts)));
     schemes
 }
-
-/// Changes that make the counts of an accepted scheme bad, refusal 3.
-pub const BAD_COUNTS: [fn(&mut Scheme); 10] = [
-    |s| s.counts.clear(),
-    // Equal neighbours.
-    |s| s.counts.insert(0, *s.counts.first().unwrap_or(&s.n)),
-    // A rising pair.
-    |s| s.counts.insert(0, s.counts.first().unwrap_or(&s.n).wrapping_sub(1)),
-    // Starting above n.
-    |s| s.counts.insert(0, s.n.wrapping_add(1)),
-    // Not ending at n - r: below it, above it, and one further count.
-    |s| s.counts.last_mut().into_iter().for_each(|last| *last = last.wrapping_sub(1)),
-    |s| s.counts.last_mut().into_iter().for_each(|last| *last = last.wrapping_add(1)),
-    |s| s.counts.push(s.counts.last().unwrap_or(&s.n).wrapping_sub(1)),
-    // One count too many, and nothing else: they fall from n to n - r.
-    |s| {
-        let low = MAX_PARTIES - MAX_COUNTS as u8;
-        s.set(MAX_PARTIES, MAX_COUNTS as u8, low - 1, (low..=MAX_PARTIES).rev().collect())
-    },
-    // Lists that would pass if their length were taken modulo 256, and a long one that falls.
-    |s| s.counts.resize(s.counts.len() + 256, 1),
-    |s| s.counts = (0..=255).rev().collect(),
-];
 
 /// A length around the end of a block or of a batch of 64 blocks.
 pub fn length(random: &mut Random, m: usize) -> usize {
@@ -274,24 +253,4 @@ impl Call {
         let of_party = |&party: &u8| &shares[(party as usize - 1) * self.share..][..prefix];
         self.parties.iter().flat_map(of_party).copied().collect()
     }
-}
-
-/// All choices of one, two or three of the faults, each with the number of the refusal that it leads to. Faults of the
-/// same number stand together, in the order in which the rules look for them. Those of a choice have different numbers
-/// and stand in the same order.
-pub fn choices<Change: Copy>(faults: &[(u64, Change)]) -> Vec<Vec<(u64, Change)>> {
-    let mut choices: Vec<Vec<(u64, Change)>> = faults.iter().map(|&fault| vec![fault]).collect();
-    let mut start = 0;
-    for _ in 0..2 {
-        let end = choices.len();
-        for shorter in start..end {
-            let last = choices[shorter][choices[shorter].len() - 1].0;
-            let from_last = faults.iter().skip_while(|fault| fault.0 != last);
-            for &fault in from_last.filter(|fault| fault.0 != last) {
-                choices.push([&choices[shorter][..], &[fault]].concat());
-            }
-        }
-        start = end;
-    }
-    choices
 }

@@ -9,6 +9,7 @@ use std::fmt::Debug;
 pub mod archive;
 pub mod pool;
 pub mod range;
+pub mod rebuild;
 
 /// On what the two agree: that the call is accepted, or its refusal.
 pub type Agreed = Result<(), u64>;
@@ -41,12 +42,12 @@ impl Lent {
 
 /// Lends a call its output between guard bytes. It has to answer and to write what is expected, or to refuse and to
 /// write nothing.
-fn written<Value: Copy + Debug + PartialEq>(
+fn written<Value: Copy + Debug + PartialEq, Refusal: Copy + Debug + PartialEq>(
     call: &impl Debug,
     random: &mut Random,
     length: usize,
-    expected: &Result<(Value, Vec<u8>), u64>,
-    run: impl FnOnce(&mut [u8]) -> Result<Value, u64>,
+    expected: &Result<(Value, Vec<u8>), Refusal>,
+    run: impl FnOnce(&mut [u8]) -> Result<Value, Refusal>,
 ) {
     let (start, end) = (8 + random.below(16), 8 + random.below(16));
     let mut after = random.bytes(start + length + end);
@@ -55,7 +56,7 @@ fn written<Value: Copy + Debug + PartialEq>(
     if let Ok((_, bytes)) = expected {
         after[start..start + length].copy_from_slice(bytes);
     }
-    assert_eq!(answer, expected.as_ref().map(|(value, _)| *value).map_err(|number| *number), "{call:?}");
+    assert_eq!(answer, expected.as_ref().map(|(value, _)| *value).map_err(|refusal| *refusal), "{call:?}");
     assert!(buffer == after, "bytes of the output or around it, {call:?}");
 }
 

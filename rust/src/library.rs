@@ -10,11 +10,13 @@ pub const ROW_OF_WEIGHTS: usize = MAX_PARTIES as usize;
 
 pub(crate) mod boundary;
 mod pool;
+mod rebuild;
 
 pub use boundary::KeyPool;
 pub use pool::{
     split_from_pool, split_from_pool_default, split_padded_from_pool, split_padded_from_pool_default, Pool,
 };
+pub use rebuild::{rebuild, rebuild_default, NotRebuilt, Rebuilt};
 
 /// What an accepted call answers, or the number of its refusal, which comes alone: with `none` for an answer.
 pub(crate) fn unless_refused<T: PartialEq + Debug>(refusal: u64, answer: T, none: T) -> Result<T, u64> {

@@ -9,6 +9,7 @@ use std::sync::OnceLock;
 pub mod archive;
 pub mod pool;
 pub mod range;
+pub mod rebuild;
 
 /// The limits of the rules' document, apart from those that the library's users are told.
 const MOST_PARTIES: i32 = 16;
@@ -249,13 +250,12 @@ pub fn prefix_padded(n: u8, r: u8, z: u8, counts: &[u8], d: usize, share: usize)
     Ok((m / (d - z as usize) * blocks) as u64)
 }
 
-/// Solves a system of linear equations over the bytes by elimination. `matrix` has one row an equation: the
-/// coefficients of the unknowns, then any number of right sides. There is exactly one solution for each right
-/// side. The answer has one row an unknown: its value for each right side.
-fn solve(mut matrix: Vec<Vec<u8>>) -> Vec<Vec<u8>> {
-    let size = matrix.len();
-    for column in 0..size {
-        let pivot = (column..size).find(|&row| matrix[row][column] != 0).expect("a unique solution");
+/// Eliminates unknowns from linear equations over the bytes, which have at most one solution. `matrix` has one row an
+/// equation: the coefficients of so many unknowns, then any number of right sides. In the answer row u has unknown u alone,
+/// with the factor 1, and the rows after those have none.
+fn eliminated(mut matrix: Vec<Vec<u8>>, unknowns: usize) -> Vec<Vec<u8>> {
+    for column in 0..unknowns {
+        let pivot = (column..matrix.len()).find(|&row| matrix[row][column] != 0).expect("one solution at most");
         matrix.swap(column, pivot);
         let factor = inverse(matrix[column][column]).expect("a pivot is not 0");
         for entry in &mut matrix[column] {
@@ -272,7 +272,14 @@ fn solve(mut matrix: Vec<Vec<u8>>) -> Vec<Vec<u8>> {
             }
         }
     }
-    matrix.into_iter().map(|row| row[size..].to_vec()).collect()
+    matrix
+}
+
+/// Solves as many equations as there are unknowns. There is exactly one solution for each right side. The answer has one row
+/// an unknown: its value for each right side.
+fn solve(matrix: Vec<Vec<u8>>) -> Vec<Vec<u8>> {
+    let size = matrix.len();
+    eliminated(matrix, size).into_iter().map(|row| row[size..].to_vec()).collect()
 }
 
 fn is_count(counts: &[u8], d: usize) -> bool {
@@ -295,11 +302,10 @@ pub fn basis(n: u8, r: u8, z: u8, counts: &[u8], parties: &[u8]) -> Result<Vec<V
     Ok((0..d).map(|i| solutions.iter().map(|coefficient| coefficient[i]).collect()).collect())
 }
 
-/// The equations of a block without their right sides: one for each row that a party sends, party after party. The
-/// unknowns are the m bytes of the block and the keys of those rows. Column u is what is sent if unknown u is 1 and all
-/// others are 0.
-fn equations(m: usize, z: usize, counts: &[u8], parties: &[u8]) -> Vec<Vec<u8>> {
-    let sent = m / (parties.len() - z);
+/// The equations of a block without their right sides: one for each row that a party sends, the first so many, party after
+/// party. The unknowns are the m bytes of the block and the keys of those rows. Column u is what is sent if unknown u is 1
+/// and all others are 0.
+fn equations(m: usize, z: usize, counts: &[u8], parties: &[u8], sent: usize) -> Vec<Vec<u8>> {
     let mut equations = vec![Vec::new(); parties.len() * sent];
     for unknown in 0..m + sent * z {
         // No block has more than m rows.
@@ -318,7 +324,7 @@ fn equations(m: usize, z: usize, counts: &[u8], parties: &[u8]) -> Vec<Vec<u8>> 
 
 /// Opens so many blocks of m bytes by solving the equations of all at once: they differ in their right sides alone.
 fn blocks_of_prefixes(m: usize, z: usize, counts: &[u8], parties: &[u8], prefixes: &[u8], blocks: usize) -> Vec<u8> {
-    let mut system = equations(m, z, counts, parties);
+    let mut system = equations(m, z, counts, parties, m / (parties.len() - z));
     // A row of a party stands in its prefix with all blocks together.
     for (i, equation) in system.iter_mut().enumerate() {
         equation.extend(&prefixes[i * blocks..(i + 1) * blocks]);

@@ -2,7 +2,7 @@
 //! is the answer, and nothing is written.
 
 use gilunavoi::cases::archive::WriteCall;
-use gilunavoi::cases::choices;
+use gilunavoi::cases::faults::choices;
 use gilunavoi::compare::{archive, Agreed};
 use gilunavoi::limits::{MAX_ENTRIES, MAX_OFFSET_OR_LENGTH};
 use gilunavoi::random::Random;

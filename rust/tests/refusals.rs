@@ -1,35 +1,14 @@
 //! Refusals: each alone, and every two and three at once, for every call in both forms of message. The first in the order
 //! of the rules' table is the answer, and nothing is written.
 
-use gilunavoi::cases::{choices, Call, Form, Scheme, BAD_COUNTS, FORMS};
+use gilunavoi::cases::faults::{choices, nearby, nearby_byte, of_the_scheme};
+use gilunavoi::cases::{Call, Form, Scheme, FORMS};
 use gilunavoi::compare::{self, pool, range, Compare};
-use gilunavoi::limits::{MAX_MESSAGE, MAX_PARTIES};
+use gilunavoi::limits::MAX_MESSAGE;
 use gilunavoi::random::Random;
 
-/// The refusal that a change of an accepted scheme or call leads to, and the change.
-type SchemeFault = (u64, fn(&mut Scheme));
+/// The refusal that a change of an accepted call leads to, and the change.
 type Fault = (u64, fn(&mut Call));
-
-const SIZES: [SchemeFault; 10] = [
-    (1, |s| s.n = 0),
-    (1, |s| s.n = 1),
-    (1, |s| s.n = MAX_PARTIES + 1),
-    (1, |s| s.n = 255),
-    (2, |s| s.z = 0),
-    (2, |s| s.z = s.n - s.r),
-    (2, |s| s.z = 255),
-    (2, |s| s.r = s.n),
-    (2, |s| s.r = 255),
-    // As bytes, r + z would be 0.
-    (2, |s| s.r = 0u8.wrapping_sub(s.z)),
-];
-
-/// The smallest m above the limit, the rules' own example, and the greatest m of all.
-const BLOCKS: [SchemeFault; 3] = [
-    (4, |s| s.set(14, 7, 1, vec![14, 12, 7])),
-    (4, |s| s.set(10, 4, 1, vec![10, 9, 8, 6])),
-    (4, |s| s.set(16, 10, 1, vec![14, 12, 10, 9, 8, 6])),
-];
 
 /// Lengths of a message that is there. Some would pass modulo 2^16.
 const MESSAGES: [Fault; 4] = [
@@ -187,9 +166,8 @@ const ORDER: [u64; 13] = [1, 2, 3, 4, 5, 6, 7, 8, 16, 15, 9, 10, 11];
 
 /// Refusals 1 to 4, and then those of the call, in their order.
 fn faults(of_the_call: &[&[Fault]]) -> Vec<(u64, Change)> {
-    let counts = BAD_COUNTS.map(|change| (3, change));
-    let of_the_scheme = SIZES.into_iter().chain(counts).chain(BLOCKS);
-    let mut faults: Vec<_> = of_the_scheme.map(|(number, change)| (number, Change::Scheme(change))).collect();
+    let scheme = of_the_scheme().into_iter();
+    let mut faults: Vec<_> = scheme.map(|(number, change)| (number, Change::Scheme(change))).collect();
     for part in of_the_call {
         faults.extend(part.iter().map(|&(number, change)| (number, Change::Call(change))));
     }
@@ -289,18 +267,6 @@ fn of_the_opener_of_ranges() {
 fn of_the_padded_opener() {
     let of_the_call: [&[Fault]; 5] = [&PARTIES, &PADDED_PREFIXES, &OUTPUTS, &PADDED_OUTPUTS, &ENDINGS];
     refused(34, Form::Padded, compare::reconstruct, &of_the_call);
-}
-
-/// Changes a byte or a length by a little, or a byte to any other.
-fn nearby(random: &mut Random, number: usize) -> usize {
-    (number + random.below(4)).saturating_sub(2)
-}
-
-fn nearby_byte(random: &mut Random, byte: u8) -> u8 {
-    if random.below(4) == 0 {
-        return random.byte();
-    }
-    nearby(random, byte as usize) as u8
 }
 
 /// A change that may be a fault or not.

@@ -1,6 +1,7 @@
 //! The check of a scheme against the other implementation, in both forms: with and without how many multiples were tried.
 
-use gilunavoi::cases::{falling_lists, Scheme, BAD_COUNTS};
+use gilunavoi::cases::faults::BAD_COUNTS;
+use gilunavoi::cases::{falling_lists, Scheme};
 use gilunavoi::compare::check;
 use gilunavoi::library;
 use gilunavoi::limits::*;

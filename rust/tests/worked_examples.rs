@@ -70,6 +70,18 @@ fn reconstruct_padded(parties: &[u8], prefixes: &[u8], blocks: usize) -> ((u64, 
     (answer, out)
 }
 
+/// Rebuilds a share of two bytes, or of none where no shares are lent, with 2 parties enough: what was answered, and the
+/// share, or two bytes as they were.
+fn rebuild(n: u8, parties: &[u8], shares: &[u8], party: u8, held: &[u8]) -> (library::Rebuilt, Vec<u8>) {
+    let (r, counts) = (n - 2, [3, 2]);
+    let mut out = vec![7; if shares.is_empty() { 0 } else { 2 }];
+    let answer = library::rebuild(n, r, 1, &counts, parties, shares, party, held, &mut out);
+    let expected = reference::rebuild::rebuild(n, r, 1, &counts, parties, shares, party, held, out.len());
+    let told = answer.map_err(|no| (no.refusal, no.party.unwrap_or(0)));
+    assert_eq!(told.map(|differing| (differing, out.clone())), expected);
+    (answer, out)
+}
+
 fn check(n: u8, r: u8, z: u8, counts: &[u8]) -> library::Checked {
     let answer = library::check(n, r, z, counts);
     assert_eq!(answer, reference::check(n, r, z, counts));
@@ -133,6 +145,23 @@ fn ranges() {
 
 /// Worked out by hand. Of one byte: the rows 9 + 5x + 128x² and 4 + 128x. A message that fills its blocks has one more,
 /// and the empty one has one.
+#[test]
+fn shares_rebuilt() {
+    assert_eq!(rebuild(3, &[1, 2], &[11, 3, 31, 10], 3, &[]), (Ok(0), vec![29, 13]));
+    assert_eq!(rebuild(3, &[1, 2], &[11, 3, 31, 10], 3, &[29, 12]), (Ok(1), vec![29, 13]));
+    let refused = |refusal, party| (Err(library::NotRebuilt { refusal, party }), vec![7, 7]);
+    assert_eq!(rebuild(3, &[1, 2, 3], &[11, 2, 31, 10, 29, 13], 3, &[]), refused(18, None));
+
+    let mut out = [0; 8];
+    library::split(4, 2, 1, &[3, 2], &[5, 7], &[9, 4], &mut out).unwrap();
+    assert_eq!(out, [11, 3, 31, 10, 29, 13, 109, 24]);
+    assert_eq!(rebuild(4, &[1, 2, 3, 4], &[11, 2, 31, 10, 29, 13, 109, 24], 2, &[]), refused(18, Some(1)));
+    assert_eq!(rebuild(4, &[1, 2, 3, 4], &[11, 2, 31, 10, 29, 12, 109, 24], 2, &[]), refused(18, None));
+
+    assert_eq!(rebuild(3, &[2, 3], &[], 1, &[]), (Ok(0), vec![]));
+    assert_eq!(rebuild(3, &[], &[], 1, &[]), (Err(library::NotRebuilt { refusal: 17, party: None }), vec![]));
+}
+
 #[test]
 fn padded_messages() {
     assert_eq!(split_padded(&[5], &[9, 4], 6), [140, 132, 53, 31, 176, 159]);

@@ -36,6 +36,12 @@ differing-none (x ∷ xs) (y ∷ ys) e h =
     let c = cell-by x y (differing xs ys) (eqb x y) refl h in
     ap₂ _∷_ (c .0) (differing-none xs ys (omega arith) (c .1))
 
+-- an empty list differs nowhere
+pub differing-empty : (xs ys : List ℕ) → length xs ≡ 0 → differing xs ys ≡ 0
+unfolding differing
+differing-empty [] ys e = refl
+differing-empty (x ∷ xs) ys e = absurd (suc-ne-zero (length xs) e)
+
 -- ---- the loop that counts them: what is left from place i on
 
 right-empty : (xs : List ℕ) → differing xs [] ≡ 0

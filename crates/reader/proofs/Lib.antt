@@ -21,4 +21,5 @@ mod RebuildAnswers
 mod RangeAnswers
 mod RangeLaws
 pub mod Examples
+pub mod RebuildExamples
 pub mod Laws

@@ -148,11 +148,11 @@ module _ {qs : List ℕ} {grounds : List Ground} (tested : Tested qs grounds) wh
 
 -- ---- the scheme's refusal in front of a call's own
 
-first-before : (grounds more : List Ground) (q : ℕ) → FirstApplies q grounds → FirstApplies q (grounds ++ more)
+pub first-before : (grounds more : List Ground) (q : ℕ) → FirstApplies q grounds → FirstApplies q (grounds ++ more)
 first-before (g ∷ grounds) more q (inl a) = inl a
 first-before (g ∷ grounds) more q (inr f) = inr (f .0, first-before grounds more q (f .1))
 
-first-after : (grounds more : List Ground) (q : ℕ) → NoneApplies grounds → FirstApplies q more → FirstApplies q (grounds ++ more)
+pub first-after : (grounds more : List Ground) (q : ℕ) → NoneApplies grounds → FirstApplies q more → FirstApplies q (grounds ++ more)
 first-after [] more q n f = f
 first-after (g ∷ grounds) more q n f = inr (n .0, first-after grounds more q (n .1) f)
 

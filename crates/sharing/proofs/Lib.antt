@@ -9,5 +9,7 @@ pub mod PaddedOpening
 pub mod PaddedCalls
 pub mod PoolCalls
 pub mod Range
+pub mod RebuildCalls
+pub mod RebuildSplit
 pub mod Divisors
 pub mod Starred

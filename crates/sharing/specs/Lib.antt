@@ -9,5 +9,6 @@ pub mod PaddedRoundTrip
 pub mod PaddedCalls
 pub mod PoolCalls
 pub mod Range
+pub mod Rebuild
 pub mod Divisors
 pub mod Starred

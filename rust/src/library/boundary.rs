@@ -43,6 +43,13 @@ pub struct SharingBasis {
 }
 
 #[repr(C)]
+pub struct SharingRebuild {
+    pub refusal: u64,
+    pub differing: u64,
+    pub party: u64,
+}
+
+#[repr(C)]
 pub struct ArchiveEntry {
     pub refusal: u64,
     pub offset: u64,
@@ -160,6 +167,15 @@ extern "C" {
         pool: *mut KeyPool, message: *const u8, message_length: usize,
         pool_bytes: *const u8, pool_bytes_length: usize, out: *mut u8, out_length: usize,
     ) -> SharingAnswer;
+    pub fn sharing_rebuild(
+        n: u8, r: u8, z: u8, counts: *const u8, counts_length: usize, parties: *const u8, parties_length: usize,
+        shares: *const u8, shares_length: usize, party: u8, held: *const u8, held_length: usize,
+        out: *mut u8, out_length: usize,
+    ) -> SharingRebuild;
+    pub fn sharing_rebuild_default(
+        parties: *const u8, parties_length: usize, shares: *const u8, shares_length: usize,
+        party: u8, held: *const u8, held_length: usize, out: *mut u8, out_length: usize,
+    ) -> SharingRebuild;
     pub fn archive_write(
         contents: *const u8, contents_length: usize, lengths: *const usize, lengths_length: usize,
         out: *mut u8, out_length: usize,

@@ -80,6 +80,13 @@ impl Arguments {
     pub fn number(&self, name: &str) -> Result<usize, Failure> {
         self.number_if_given(name)?.map_or_else(|| usage(format!("{name} is missing")), Ok)
     }
+
+    /// The party that an option must name.
+    pub fn party(&self, name: &str) -> Result<u8, Failure> {
+        let word = self.option(name).map_or_else(|| usage(format!("{name} is missing")), Ok)?;
+        let party = number(word, u8::MAX as usize).map(|number| number as u8);
+        party.or_else(|reason| usage(format!("{name}: {reason}")))
+    }
 }
 
 /// The words, if they are as many as the names.

@@ -1,5 +1,5 @@
-//! The commands. Those on archives stand in `archive`, those on pools of keys in `pool_commands`, and those that split and
-//! open messages in `split` and `reconstruct`.
+//! The commands. Those on archives stand in `archive`, those on pools of keys in `pool_commands`, those that split and open
+//! messages in `split` and `reconstruct`, and those that look after shares in `rebuild`.
 
 use crate::arguments::{paths, usage, Arguments};
 use crate::failure::{Done, Failure};
@@ -8,7 +8,7 @@ use crate::form::Form;
 use crate::range::{rows_in_order, Range};
 use crate::report::{counted, say};
 use crate::scheme::Scheme;
-use crate::{archive, help, pool_commands, reconstruct, split};
+use crate::{archive, help, pool_commands, rebuild, reconstruct, split};
 use gilunavoi::library;
 use std::ffi::OsString;
 
@@ -20,7 +20,7 @@ struct Command {
     run: fn(&Arguments) -> Done,
 }
 
-const COMMANDS: [Command; 6] = [
+const COMMANDS: [Command; 8] = [
     Command { name: "scheme", help: help::scheme, options: &["--range", "--first"], run: scheme },
     Command { name: "pool", help: help::pool, options: &[], run: pool_commands::run },
     Command { name: "split", help: help::split, options: &["--scheme", "--unpadded", "--pool"], run: split::run },
@@ -31,12 +31,16 @@ const COMMANDS: [Command; 6] = [
         options: &["--scheme", "--length", "--range", "--first"],
         run: reconstruct::run,
     },
+    Command { name: "rebuild", help: help::rebuild, options: &["--scheme", "--party", "--held"], run: rebuild::run },
+    Command { name: "check", help: help::check, options: &["--scheme"], run: rebuild::check },
     Command { name: "archive", help: help::archive, options: &[], run: archive::run },
 ];
 
 pub fn run(words: Vec<OsString>) -> Done {
     let Some((first, rest)) = words.split_first() else {
-        return usage("a command is missing: scheme, pool, split, prefix, reconstruct or archive".to_string());
+        return usage(
+            "a command is missing: scheme, pool, split, prefix, reconstruct, rebuild, check or archive".to_string(),
+        );
     };
     let asks_for_help = |word: &OsString| word == "--help" || word == "-h";
     if asks_for_help(first) {

@@ -46,6 +46,8 @@ pub fn refusals() -> impl Iterator<Item = (u64, String)> {
         "the archive has no entry of this number".to_string(),
         "the range ends past the end of the message".to_string(),
         "the record of the pool does not fit its keys, or the pool has fewer bytes left than this message needs".to_string(),
+        "there are fewer shares than N - R".to_string(),
+        "the shares do not agree: they are not all shares of one message, as it was split".to_string(),
     ];
     (1..).zip(reasons)
 }

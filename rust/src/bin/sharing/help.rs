@@ -5,6 +5,10 @@ use crate::pool::{KEYS, LONGEST, RECORD};
 use crate::scheme::Scheme;
 use gilunavoi::limits::{MAX_ENTRIES, MAX_MESSAGE, MAX_OFFSET_OR_LENGTH, MAX_PARTIES};
 
+mod shares;
+
+pub use shares::{check, rebuild};
+
 const COMMANDS: &str = "\
 sharing splits a message into shares and opens it again from the beginnings of a few of them.
 
@@ -20,6 +24,10 @@ sharing splits a message into shares and opens it again from the beginnings of a
       cuts out of a share what its party sends when D parties are read from
   sharing reconstruct [--scheme S] [--length L] [--range START..END | --first BYTES] OUT PARTY=FILE ..
       opens the message, or a range of it, from what the parties sent
+  sharing rebuild [--scheme S] --party P [--held FILE] OUT PARTY=FILE ..
+      makes a party's share anew out of whole shares, and says how much of a held copy is wrong
+  sharing check [--scheme S] PARTY=FILE ..
+      says whether whole shares agree, which one is wrong, and how many more may be lost
   sharing archive write FILE [SHARE ..]
   sharing archive list FILE
   sharing archive entry FILE NUMBER OUT
@@ -57,8 +65,8 @@ written, and for you to remove.
 The exit status is 0 when all went well, 1 when the input was refused or a file could not be read or
 written, and 2 when the command line cannot be understood. A signal ends the program as it ends others.
 
-Input is refused for the first of these reasons that applies, with its number; where --length is given, 15
-is looked at before 9:
+Input is refused for the first of these reasons that applies, with its number; 17 is looked at before 9, and where
+--length is given, 15 is:
 
 {table}"
     )

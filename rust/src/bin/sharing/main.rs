@@ -1,7 +1,7 @@
-//! The program `sharing`: splits a file into shares, cuts prefixes and opens the file again, keeps a pool of keys of
-//! which each byte is used once, and keeps many shares in one archive. All that is secret sharing, which bytes of a
-//! pool come next, and what an archive is, is left to the proved libraries; this program reads files, names refusals
-//! in words and writes files.
+//! The program `sharing`: splits a file into shares, cuts prefixes and opens the file again, checks shares and makes a lost
+//! one anew, keeps a pool of keys of which each byte is used once, and keeps many shares in one archive. All that is secret
+//! sharing, which bytes of a pool come next, and what an archive is, is left to the proved libraries; this program reads
+//! files, names refusals in words and writes files.
 
 mod archive;
 mod arguments;
@@ -11,9 +11,11 @@ mod files;
 mod form;
 mod help;
 mod interrupt;
+mod parties;
 mod pool;
 mod pool_commands;
 mod range;
+mod rebuild;
 mod reconstruct;
 mod record;
 mod report;

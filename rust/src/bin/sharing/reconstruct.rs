@@ -1,9 +1,10 @@
 //! The command `reconstruct`: opens a message, or a range of it, from what the parties sent.
 
-use crate::arguments::{file_before_parties, party_and_file, usage, Arguments};
+use crate::arguments::{file_before_parties, usage, Arguments};
 use crate::failure::{Done, Failure};
-use crate::files::{read, Input, Output, Place};
+use crate::files::{Input, Output, Place};
 use crate::form::Form;
+use crate::parties::{check_equally_long, joined, read_files};
 use crate::range::{rows_in_order, Range};
 use crate::report::counted;
 use crate::scheme::{Block, Scheme};
@@ -53,13 +54,7 @@ impl Opening {
         let (form, range) = (Form::of(arguments)?, Range::of(arguments)?);
         let scheme = Scheme::of(arguments)?;
         let block = scheme.check()?;
-        let read_one = |word: &OsString| {
-            let (party, path) = party_and_file(word)?;
-            Ok((party, read(path)?))
-        };
-        let mut sent = words.iter().map(read_one).collect::<Result<Vec<(u8, Input)>, Failure>>()?;
-        sent.sort_by_key(|&(party, _)| party);
-        let (parties, prefixes) = sent.into_iter().unzip();
+        let (parties, prefixes) = read_files(words)?;
         Ok(Opening { scheme, block, form, range, parties, prefixes })
     }
 
@@ -80,22 +75,19 @@ impl Opening {
         }
     }
 
-    /// The prefixes, one after another.
-    fn joined(&self) -> Vec<u8> {
-        self.prefixes.iter().flat_map(|prefix| prefix.bytes.iter().copied()).collect()
-    }
-
     /// The number of the refusal, or what is opened.
     fn open(&self) -> Result<Opened, u64> {
         let Scheme { n, r, z, ref counts, .. } = self.scheme;
         let (used, bytes) = match (self.range, self.form) {
             (Some(range), Form::Padded) => return self.padded_range(range),
-            (Some(range), Form::Told(length)) => range.open(&self.scheme, length, &self.parties, &self.joined())?,
+            (Some(range), Form::Told(length)) => {
+                range.open(&self.scheme, length, &self.parties, &joined(&self.prefixes))?
+            }
             (None, Form::Padded) => self.padded_message()?,
             (None, Form::Told(length)) => {
                 // A longer message is refused before its room is looked at, so that no number asks for too much.
                 let mut message = vec![0; length.min(MAX_MESSAGE)];
-                let prefixes = self.joined();
+                let prefixes = joined(&self.prefixes);
                 let used = library::reconstruct(n, r, z, counts, length, &self.parties, &prefixes, &mut message)?;
                 (used, message)
             }
@@ -107,7 +99,8 @@ impl Opening {
     fn padded_message(&self) -> Result<(u64, Vec<u8>), u64> {
         let Scheme { n, r, z, ref counts, .. } = self.scheme;
         let mut message = vec![0; self.blocks() * self.block.bytes];
-        let (used, length) = library::reconstruct_padded(n, r, z, counts, &self.parties, &self.joined(), &mut message)?;
+        let (used, length) =
+            library::reconstruct_padded(n, r, z, counts, &self.parties, &joined(&self.prefixes), &mut message)?;
         message.truncate(length as usize);
         Ok((used, message))
     }
@@ -121,7 +114,7 @@ impl Opening {
     fn padded_range(&self, range: Range) -> Result<Opened, u64> {
         let (blocks, length) = (self.blocks(), self.bytes_in_blocks());
         let kept = self.block.blocks(length);
-        let mut prefixes = self.joined();
+        let mut prefixes = joined(&self.prefixes);
         if kept < blocks {
             // A row has a byte of each block.
             prefixes = prefixes.chunks(blocks).flat_map(|row| row.iter().take(kept).copied()).collect();
@@ -145,13 +138,7 @@ impl Opening {
                 return Err(self.form.wrong_length(&self.block, of_a_block, &what, prefix));
             }
         }
-        match self.prefixes.windows(2).find(|pair| pair[0].bytes.len() != pair[1].bytes.len()) {
-            None => Ok(()),
-            Some(pair) => {
-                let detail = format!("the prefixes of one message are equally long, but {} and {}", pair[0], pair[1]);
-                Err(Failure::Refused(9, detail))
-            }
-        }
+        check_equally_long(&self.prefixes, "prefixes")
     }
 
     /// The refusal that the library gave, with what was given.

@@ -72,11 +72,11 @@ impl Scheme {
         format!("{}{}", self.used(), if self.by_default { &hint } else { "" })
     }
 
-    /// Adds to a refusal for a length, for an end that is none, or for a range past the blocks, that the scheme may be what
-    /// is wrong.
+    /// Adds to a refusal for a length, for an end that is none, for a range past the blocks, or for shares that do not agree,
+    /// that the scheme may be what is wrong.
     pub fn suspected(&self, failure: Failure) -> Failure {
         match failure {
-            Failure::Refused(number @ (9 | 11 | 15), detail) => {
+            Failure::Refused(number @ (9 | 11 | 15 | 18), detail) => {
                 let same = if self.by_default { "" } else { ": shares have to be split, and prefixes cut, in it too" };
                 Failure::Refused(number, format!("{detail}\nthe scheme is {}{same}", self.used_by_readers()))
             }
