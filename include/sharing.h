@@ -320,7 +320,8 @@ sharing_answer sharing_split_from_pool_default(
 
 /*
  * A share that was rebuilt: the number of bytes in which the held copy differs from it. Beside refusal 18, where
- * `differing` is 0, `party` is the one whose share does not fit the others, or 0 where that cannot be told.
+ * `differing` is 0, `party` is the one whose share does not fit the others, which agree without it, or 0 where none
+ * is named.
  */
 typedef struct {
     uint64_t refusal;
@@ -329,19 +330,20 @@ typedef struct {
 } sharing_rebuild_answer;
 
 /*
- * Rebuilds the share of one party, exactly as it was split, from whole shares of at least n - r parties, and does
- * not write the message anywhere. The parties are bytes in rising order, and their shares stand one after another
- * in that order, N x b bytes each, of a message of either form: N is shares_length / (parties_length x b), from 0
- * to 16,384 / m (rounded down) + 1. `party` may be one of them or not. `out` has N x b bytes and receives its
- * share. `held` is a copy of it that is in doubt, or empty: then there is none, and `differing` is 0. Refusals 1 to
- * 4, 7, 17, 9, 10 and 18, in this order.
+ * Rebuilds the share of one party, exactly as it was split, from whole shares of at least n - r parties. The message
+ * is written into no memory that was lent; its blocks stand in the call's own memory while it runs, as in an opening.
+ * The parties are bytes in rising order, and their shares stand one after another in that order, N x b bytes each,
+ * of a message of either form: N is shares_length / (parties_length x b), from 0 to 16,384 / m (rounded down) + 1.
+ * `party` may be one of them or not. `out` has N x b bytes and receives its share. `held` is a copy of it that is in
+ * doubt, or empty: then there is none, and `differing` is 0. Refusals 1 to 4, 7, 17, 9, 10 and 18, in this order.
  *
  * Shares agree if some blocks, whatever their padding, and some keys give them all. Those of n - r parties always
  * do: nothing is noticed there, and a wrong share among them makes a wrong one. With more, wrong shares are refused,
  * 18, as long as n - r right ones are among them. With n - r + 2 or more the refusal names a party exactly if all
  * others agree without its share. There is never more than one such party; where there is none, more than one share
- * is wrong. Which of two messages is the right one is not told: if all but one are shares of another message, that
- * one is named.
+ * is wrong. One wrong share is always named. Where several are wrong, mostly nobody is; but of c shares c - (n - r)
+ * wrong ones that were made to fit together can have a right one named. Which of two messages is the right one is
+ * not told: if all but one are shares of another message, that one is named.
  */
 sharing_rebuild_answer sharing_rebuild(
     uint8_t n, uint8_t r, uint8_t z, const uint8_t *counts, size_t counts_length,

@@ -143,8 +143,7 @@ fn ranges() {
     }
 }
 
-/// Worked out by hand. Of one byte: the rows 9 + 5x + 128x² and 4 + 128x. A message that fills its blocks has one more,
-/// and the empty one has one.
+/// Of the message 5 7 under the keys 9 4, with three parties and with four.
 #[test]
 fn shares_rebuilt() {
     assert_eq!(rebuild(3, &[1, 2], &[11, 3, 31, 10], 3, &[]), (Ok(0), vec![29, 13]));
@@ -162,6 +161,8 @@ fn shares_rebuilt() {
     assert_eq!(rebuild(3, &[], &[], 1, &[]), (Err(library::NotRebuilt { refusal: 17, party: None }), vec![]));
 }
 
+/// Worked out by hand. Of one byte: the rows 9 + 5x + 128x² and 4 + 128x. A message that fills its blocks has one more,
+/// and the empty one has one.
 #[test]
 fn padded_messages() {
     assert_eq!(split_padded(&[5], &[9, 4], 6), [140, 132, 53, 31, 176, 159]);

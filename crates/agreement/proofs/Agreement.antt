@@ -12,11 +12,10 @@ use borrow.Author.Tests.{eqb-true, eq-eqb}
 use Rattle.lists.specs.Each.{Each, Distinct, Byte}
 use Rattle.lists.specs.Table.{joined, piece}
 use Rattle.lists.specs.Differing.{differing}
-use Rattle.lists.proofs.Each.{each-take}
+use Rattle.lists.proofs.Each.{each-take, distinct-take}
 use Rattle.lists.proofs.Joined.{length-joined, piece-joined}
-use Rattle.lists.proofs.Piece.{joined-is}
+use Rattle.lists.proofs.Piece.{joined-is, piece-take}
 use Rattle.lists.proofs.Differing.{differing-self, differing-none}
-use Rattle.lists.proofs.Skipped.{distinct-take, piece-take}
 use Rattle.scheme.specs.Check.{rowsOfCount, rowsOfBlock}
 use Rattle.scheme.proofs.Laws.{accepted}
 use Rattle.family.specs.Message.{Bytes}

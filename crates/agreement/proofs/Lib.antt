@@ -1,6 +1,7 @@
-pub mod Sources
-pub mod Agreement
-pub mod Named
-pub mod Skipped
+mod Sources
+mod Agreement
+mod Named
+mod Skipped
 pub mod Laws
 pub mod Examples
+pub mod RebuildExamples

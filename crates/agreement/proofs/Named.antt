@@ -16,10 +16,10 @@ use Rattle.lists.specs.Table.{piece}
 use Rattle.lists.specs.Without.{without, withoutPiece, skipped}
 use Rattle.lists.specs.FirstFrom.{firstFrom}
 use Rattle.lists.proofs.Tests.{lt-or-le}
-use Rattle.lists.proofs.Each.{each-take, each-of}
+use Rattle.lists.proofs.Each.{each-take, each-of, distinct-take}
 use Rattle.lists.proofs.FirstFrom.{first-found}
-use Rattle.lists.proofs.Without.{length-without}
-use Rattle.lists.proofs.Skipped.{skipped-before, skipped-after, skipped-other, skipped-below, skipped-back, unskipped, unskipped-below, getD-without, length-without-piece, piece-without, each-without-piece, distinct-take, each-without, distinct-without}
+use Rattle.lists.proofs.Without.{length-without, each-without, distinct-without}
+use Rattle.lists.proofs.Skipped.{skipped-before, skipped-after, skipped-other, skipped-below, skipped-back, unskipped, unskipped-below, getD-without, length-without-piece, piece-without, each-without-piece}
 use Rattle.family.specs.Message.{Bytes}
 use Rattle.staircase.specs.Parameters.{Parameters, Party, rows}
 use Rattle.staircase.specs.Shares.{staircase}

@@ -10,13 +10,14 @@ use native.Mathlib.Nat.{mul-le-mul-right}
 use native.Mathlib.Omega.{arith}
 use lib.ListN.{length, getD, take}
 use lib.Seq.{getD-take}
+use Rattle.lists.proofs.Piece.{piece-take}
 use Rattle.lists.specs.Table.{piece}
 use Rattle.lists.specs.Without.{without, withoutPiece, skipped}
 use Rattle.lists.specs.Differing.{differing}
 use Rattle.lists.proofs.Tests.{lt-or-le}
 use Rattle.lists.proofs.Without.{length-without}
 use Rattle.lists.proofs.Differing.{differing-self}
-use Rattle.lists.proofs.Skipped.{skipped-before, skipped-other, skipped-back, unskipped, getD-without, without-far, piece-without, piece-take, without-past, left-inside}
+use Rattle.lists.proofs.Skipped.{skipped-before, skipped-other, skipped-back, unskipped, getD-without, without-far, piece-without, without-past, left-inside}
 use Rattle.staircase.specs.Parameters.{Parameters, rows}
 use Rattle.staircase.specs.Shares.{staircase}
 use Rattle.agreement.specs.Agreement.{shareIn, GiveAll, enough, foundBlocks, foundKeys, rebuilt, agrees, Lent}

@@ -11,8 +11,7 @@ use Rattle.lists.specs.Each.{Each}
 use Rattle.lists.specs.Table.{joined, piece}
 use Rattle.lists.proofs.Each.{each-getD}
 use Rattle.lists.proofs.Joined.{piece-joined}
-use Rattle.lists.proofs.Piece.{length-piece}
-use Rattle.lists.proofs.Skipped.{by-pieces}
+use Rattle.lists.proofs.Piece.{length-piece, by-pieces}
 use Rattle.family.specs.Message.{Bytes}
 use Rattle.family.specs.Family.{Family, shareOfBlocks}
 use Rattle.family.specs.Exactness.{firstRows, Gives, Exact}

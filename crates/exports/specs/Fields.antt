@@ -20,7 +20,7 @@ use Rattle.key_pool.specs.declared.KeyPool.{KeyPool}
 use Rattle.key_pool.specs.Pool.{poolAnswer, poolOutput, poolAfter}
 use Rattle.reader.specs.Basis.{basisRefusal, basisOf}
 use Rattle.reader.specs.Range.{rangeAnswer, rangeOutput}
-use Rattle.reader.specs.Rebuild.{rebuildAnswer, rebuildOutput}
+use Rattle.agreement.specs.Rebuild.{rebuildAnswer, rebuildOutput}
 use Rattle.reader.specs.Reconstruct.{reconstructAnswer, reconstructOutput}
 use Rattle.reader.specs.ReconstructPadded.{reconstructPaddedAnswer, reconstructPaddedOutput}
 use Rattle.exports.specs.declared.Gf256InverseAnswer.{Gf256InverseAnswer}

@@ -147,3 +147,9 @@ occurs-place x (y ∷ ys) e = at (ℕ-discrete x y) (λ n. occurs-place x ys (rw
     at (no n) later =
         let found = later n in
         (suc (found .0), suc-le-suc (found .1), found .2)
+
+-- the first entries of a list with no number twice
+pub distinct-take : (n : ℕ) (l : List ℕ) → Distinct l → Distinct (take n l)
+distinct-take zero l h = tt
+distinct-take (suc n) [] h = tt
+distinct-take (suc n) (x ∷ l) h = (each-take (λ y. x ≢ y) n l (h .0), distinct-take n l (h .1))

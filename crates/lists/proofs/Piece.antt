@@ -2,14 +2,15 @@
 -- Assumes nothing.
 use mathlib.Core.Path.{_≡_, refl, sym, ap, _∙_}
 use mathlib.Core.List.{List, [], _∷_}
-use Prim.Native.Nat.{ℕ, zero, suc, _+_, _*_, _/_, _%_, _≤_, _<_}
+use Prim.Native.Nat.{ℕ, zero, suc, _+_, _-_, _*_, _/_, _%_, _≤_, _<_}
 use native.Mathlib.Nat.{zero-mul, suc-mul, zero-add, add-comm, le-of-eq, le-of-suc-le-suc, not-suc-le-zero, div-add-mod'}
 use native.Mathlib.Omega.{arith}
-use lib.ListN.{length, getD, drop, length-append, length-drop, List·getD-append}
-use lib.Seq.{drop-drop, getD-take, getD-drop, length-take-le, getD-append-add, ext-getD}
+use lib.ListN.{length, getD, take, drop, length-append, length-drop, List·getD-append}
+use lib.Seq.{drop-drop, take-take, getD-take, getD-drop, length-take-le, getD-append-add, ext-getD}
 use Rattle.lists.specs.Each.{Each}
 use Rattle.lists.specs.Table.{joined, piece, pieces, flat}
 use Rattle.lists.proofs.Each.{each-take, each-drop}
+use Rattle.lists.proofs.Parts.{drop-take}
 use Rattle.lists.proofs.Joined.{row-room, in-grid, length-joined, getD-joined}
 
 module _ {ℓ} {A : Type ℓ} where
@@ -66,3 +67,14 @@ module _ {ℓ} {A : Type ℓ} where
   getD-flat w (l ∷ ls) h (suc i) u d b c =
       let e : suc i * w + u ≡ length l + (i * w + u) = omega (arith, suc-mul i w, h .0) in
       rw (e, getD-append-add) (getD-flat w ls (h .1) i u d (le-of-suc-le-suc b) c)
+
+-- the first part of a list has its first pieces
+pub piece-take : (w a n : ℕ) (l : List ℕ) → a < n → n * w ≤ length l → piece w a (take (n * w) l) ≡ piece w a l
+unfolding piece
+piece-take w a n l h room =
+    let e : a * w + (n * w - a * w) ≡ n * w = omega (arith, row-room a n w h) in
+    rw (← e) (ap (take w) (drop-take (a * w) (n * w - a * w) l) ∙ take-take w (n * w - a * w) (drop (a * w) l) (omega (arith, row-room a n w h)))
+
+-- strings that are the same piece by piece are the same
+pub by-pieces : (w N : ℕ) (k k′ : List ℕ) → length k ≡ N * w → length k′ ≡ N * w → ((t : ℕ) → t < N → piece w t k ≡ piece w t k′) → k ≡ k′
+by-pieces w N k k′ n n′ h = joined-is k N w (λ t. piece w t k′) 0 n h ∙ sym (joined-is k′ N w (λ t. piece w t k′) 0 n′ (λ t _. refl))

@@ -12,15 +12,15 @@ use lib.Dec.{ltb}
 use lib.ListN.{length, getD, take, drop, length-append, length-take, length-drop, drop-of-length-le, List·getD-append, List·getD-eq-default}
 use lib.Seq.{take-all, take-take, length-take-le, getD-take, getD-drop, getD-append-add, ext-getD, take-append-le, take-append-add}
 use borrow.Author.Tests.{lt-ltb, le-ltb}
-use Rattle.lists.specs.Each.{Each, Distinct}
+use Rattle.lists.specs.Each.{Each}
 use Rattle.lists.specs.Table.{piece}
 use Rattle.lists.specs.Without.{without, withoutPiece, skipped}
 use Rattle.lists.proofs.Tests.{lt-or-le}
 use Rattle.lists.proofs.Parts.{drop-take}
-use Rattle.lists.proofs.Each.{each-append, each-take, each-drop, each-getD}
+use Rattle.lists.proofs.Each.{each-append, each-take, each-drop}
 use Rattle.lists.proofs.Joined.{row-room}
-use Rattle.lists.proofs.Piece.{length-piece, getD-piece, joined-is}
-use Rattle.lists.proofs.Without.{length-without, without-each}
+use Rattle.lists.proofs.Piece.{length-piece, getD-piece}
+use Rattle.lists.proofs.Without.{length-without}
 
 -- ---- a list without the entry, or the piece, at place i
 
@@ -159,35 +159,6 @@ module _ (w : ℕ) (l : List ℕ) (i n : ℕ) (long : length l ≡ n * w) (h : i
   unfolding withoutPiece
   each-without-piece P e =
       each-append P (take (i * w) l) (drop (i * w + w) l) (each-take P (i * w) l e) (each-drop P (i * w + w) l e)
-
--- ---- lists with no number twice
-
-pub distinct-take : (n : ℕ) (l : List ℕ) → Distinct l → Distinct (take n l)
-distinct-take zero l h = tt
-distinct-take (suc n) [] h = tt
-distinct-take (suc n) (x ∷ l) h = (each-take (λ y. x ≢ y) n l (h .0), distinct-take n l (h .1))
-
-pub each-without : (P : ℕ → Type 0) (l : List ℕ) (i : ℕ) → Each P l → Each P (without i l)
-each-without P l i h = without-each P l i 0 (λ j b _. each-getD P l j 0 b h)
-
-pub distinct-without : (l : List ℕ) (i : ℕ) → Distinct l → Distinct (without i l)
-unfolding without
-distinct-without [] i h = tt
-distinct-without (x ∷ l) zero h = h .1
-distinct-without (x ∷ l) (suc i) h = (each-without (λ y. x ≢ y) l i (h .0), distinct-without l i (h .1))
-
--- ---- pieces
-
--- the first part of a list has its first pieces
-pub piece-take : (w a n : ℕ) (l : List ℕ) → a < n → n * w ≤ length l → piece w a (take (n * w) l) ≡ piece w a l
-unfolding piece
-piece-take w a n l h room =
-    let e : a * w + (n * w - a * w) ≡ n * w = omega (arith, row-room a n w h) in
-    rw (← e) (ap (take w) (drop-take (a * w) (n * w - a * w) l) ∙ take-take w (n * w - a * w) (drop (a * w) l) (omega (arith, row-room a n w h)))
-
--- strings that are the same piece by piece are the same
-pub by-pieces : (w N : ℕ) (k k′ : List ℕ) → length k ≡ N * w → length k′ ≡ N * w → ((t : ℕ) → t < N → piece w t k ≡ piece w t k′) → k ≡ k′
-by-pieces w N k k′ n n′ h = joined-is k N w (λ t. piece w t k′) 0 n h ∙ sym (joined-is k′ N w (λ t. piece w t k′) 0 n′ (λ t _. refl))
 
 -- ---- where the place left out may be past the end, which leaves nothing out
 

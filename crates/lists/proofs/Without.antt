@@ -41,3 +41,13 @@ without-distinct [] i b h = tt
 without-distinct (x ∷ xs) zero b h = h .0
 without-distinct (x ∷ xs) (suc i) b h =
     (λ e. each-getD (λ y. x ≢ y) xs i 0 (le-of-suc-le-suc b) (h .0) (sym e), without-distinct xs i (le-of-suc-le-suc b) (h .1))
+
+-- what all entries have, those that are left have, and no number stands twice among them
+pub each-without : (P : ℕ → Type 0) (l : List ℕ) (i : ℕ) → Each P l → Each P (without i l)
+each-without P l i h = without-each P l i 0 (λ j b _. each-getD P l j 0 b h)
+
+pub distinct-without : (l : List ℕ) (i : ℕ) → Distinct l → Distinct (without i l)
+unfolding without
+distinct-without [] i h = tt
+distinct-without (x ∷ l) zero h = h .1
+distinct-without (x ∷ l) (suc i) h = (each-without (λ y. x ≢ y) l i (h .0), distinct-without l i (h .1))

@@ -12,19 +12,19 @@ use native.Mathlib.Omega.{arith}
 use lib.Dec.{eqb}
 use lib.ListN.{length, getD, take, length-map, List·getD-eq-default}
 use lib.Seq.{length-take-le, getD-take}
-use borrow.Author.Tests.{lt-ltb, le-ltb, eq-eqb, ne-eqb, eqb-true, eqb-false}
+use borrow.Author.Tests.{le-ltb, eq-eqb, ne-eqb, eqb-true, eqb-false}
 use Rattle.lists.specs.Differing.{differing}
 use Rattle.lists.specs.Each.{Each, Distinct, Byte, occurs}
 use Rattle.lists.specs.FirstFrom.{firstFrom}
 use Rattle.lists.specs.Table.{tabulate, piece}
 use Rattle.lists.specs.Without.{without, withoutPiece, skipped}
 use Rattle.lists.proofs.Differing.{differing-self, differing-none}
-use Rattle.lists.proofs.Each.{getD-map, each-take}
+use Rattle.lists.proofs.Each.{getD-map, each-take, distinct-take}
 use Rattle.lists.proofs.FirstFrom.{first-here, first-next, first-end}
 use Rattle.lists.proofs.Joined.{in-grid}
 use Rattle.lists.proofs.Members.{occurs-at}
 use Rattle.lists.proofs.Piece.{length-piece}
-use Rattle.lists.proofs.Skipped.{unskipped-first, getD-without, without-none, without-past, left-long, take-without, distinct-take}
+use Rattle.lists.proofs.Skipped.{unskipped-first, getD-without, without-none, without-past, left-long, take-without}
 use Rattle.lists.proofs.Table.{tabulate-is, tabulate-same}
 use Rattle.lists.proofs.Tests.{neither}
 use Rattle.lists.proofs.Without.{length-without}
@@ -43,8 +43,7 @@ use Rattle.staircase.proofs.Columns.{part-at}
 use Rattle.rows.proofs.Scheme.{facts-of, rows-high}
 use Rattle.order.proofs.RowsTaken.{reached-all}
 use Rattle.agreement.specs.Agreement.{shareIn, enough, firstShares, foundBlocks, foundKeys, rebuilt, agrees, agreesWithout, named, Lent}
-use Rattle.agreement.proofs.Agreement.{all-sent, rebuilt-long, found-bytes, found-keys-bytes, found-gives}
-use Rattle.agreement.proofs.Skipped.{first-given, lent-left, agrees-all, agrees-not}
+use Rattle.agreement.proofs.Laws.{all-sent, rebuilt-long, found-bytes, found-keys-bytes, found-gives, names-none, first-given, lent-left, agrees-all, agrees-not}
 use Rattle.reader.specs.Decoding.{WeightsOf, sentRows, readFrom, Input, Sent, EachSent, Found}
 use Rattle.reader.specs.Filling.{shareAt, FillsShare}
 use Rattle.reader.specs.Agreeing.{Lending, weightsIn, foundIn, rebuiltIn, agreesIn, sameAt}
@@ -289,8 +288,7 @@ module _ {s : Scheme} {ds parties : List ℕ} {blocks : ℕ} {shares : List ℕ}
   test = agreesWithout (parametersOf s ds) parties blocks shares
 
   pub named-few : length parties < s .n - s .r + 2 → 0 ≡ named (parametersOf s ds) parties blocks shares
-  unfolding named
-  named-few h = rw (lt-ltb (length parties) (s .n - s .r + 2) h)
+  named-few h = sym (names-none (parametersOf s ds) parties blocks shares h)
 
   module _ (many : s .n - s .r + 2 ≤ length parties) where
     pub lending-without : (i : ℕ) → i < length parties → Lending s ds parties blocks i shares

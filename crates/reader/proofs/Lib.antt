@@ -21,5 +21,4 @@ mod RebuildAnswers
 mod RangeAnswers
 mod RangeLaws
 pub mod Examples
-pub mod RebuildExamples
 pub mod Laws

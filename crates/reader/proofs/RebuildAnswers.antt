@@ -24,7 +24,8 @@ use Rattle.agreement.specs.Agreement.{agrees}
 use Rattle.reader.specs.declared.rebuilding.RebuildAnswer.{RebuildAnswer}
 use Rattle.reader.specs.declared.rebuilding.RebuildAnswer.the-variants.{Rebuilt, Disagreeing, Refused}
 use Rattle.reader.specs.Agreeing.{Lending, RoomFits, Rebuilds}
-use Rattle.reader.specs.Rebuild.{disagreeing, blocksLent, lentRefusal, rebuildAnswer, rebuildOutput, RebuildCall}
+use Rattle.agreement.specs.Rebuild.{disagreeing, blocksLent, lentRefusal, rebuildAnswer, rebuildOutput}
+use Rattle.reader.specs.Rebuild.{RebuildCall}
 use Rattle.reader.proofs.Lending.{parties-few}
 use Rattle.reader.proofs.OpenerAnswers.{m-some, m-most}
 use Rattle.reader.proofs.PaddedAnswers.{held-small}

@@ -17,8 +17,8 @@ module _ {s : Scheme} {ds : List ℕ} {d blocks : ℕ} {prefixes : List ℕ} (I 
   pub all-read : Input s ds d blocks (readFrom s d blocks d prefixes)
   all-read = rw (without-none (sentRows s d * blocks) d prefixes (I .prefixes-long)) I
 
-  pub all-sent : {points B K : List ℕ} → Sent s ds d blocks points prefixes B K → Sent s ds d blocks points (readFrom s d blocks d prefixes) B K
-  all-sent X = rw (without-none (sentRows s d * blocks) d prefixes (I .prefixes-long)) X
+  pub sent-whole : {points B K : List ℕ} → Sent s ds d blocks points prefixes B K → Sent s ds d blocks points (readFrom s d blocks d prefixes) B K
+  sent-whole X = rw (without-none (sentRows s d * blocks) d prefixes (I .prefixes-long)) X
 
 -- the same prefixes in the code's number of rows
 module _ {s : Scheme} {ds : List ℕ} {d blocks P : ℕ} (skip : ℕ) (prefixes : List ℕ) (e : P ≡ sentRows s d) where

@@ -1,11 +1,12 @@
-// Rebuilding a party's share from whole shares of the others (document 02, h), without the message being written anywhere,
-// and whom a disagreement names.
+// Rebuilding a party's share from whole shares of the others (document 02, h), and whom a disagreement names. No slice that
+// is lent ever receives the message: the blocks stand in the call's own memory, as in an opening.
 ghost use mathlib.Core.Path.{_≡_};
 ghost use Prim.Native.Nat.{_*_, _≤_};
 ghost use lib.ListN.{length};
 ghost use Rattle.staircase.specs.Parameters.{parameters, defaultParameters};
 ghost use Rattle.reader.specs.Agreeing as agreeing;
-ghost use Rattle.reader.specs.Rebuild.{RebuildCall, wantedRefused, heldRefused};
+ghost use Rattle.agreement.specs.Rebuild.{wantedRefused, heldRefused};
+ghost use Rattle.reader.specs.Rebuild.{RebuildCall};
 use crate::agreeing::agree;
 use crate::agreeing::differing;
 use crate::agreeing::first_weights;

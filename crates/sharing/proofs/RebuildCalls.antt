@@ -30,7 +30,8 @@ use Rattle.agreement.specs.Agreement.{Agree, enough, rebuilt, agrees, named, Le
 use Rattle.agreement.proofs.Laws.{agreement, names-one, names-none, rebuilt-long}
 use Rattle.reader.specs.declared.rebuilding.RebuildAnswer.{RebuildAnswer}
 use Rattle.reader.specs.declared.rebuilding.RebuildAnswer.the-variants.{Rebuilt, Disagreeing, Refused}
-use Rattle.reader.specs.Rebuild.{disagreeing, rebuildOutcome, blocksLent, wantedRefused, heldRefused, lentRefusal, rebuildAnswer, rebuildOutput, RebuildCall}
+use Rattle.agreement.specs.Rebuild.{disagreeing, blocksLent, wantedRefused, heldRefused, lentRefusal, rebuildAnswer, rebuildOutput}
+use Rattle.reader.specs.Rebuild.{rebuildOutcome, RebuildCall}
 use Rattle.sharing.specs.Calls.{schemeLines, notRising}
 use Rattle.sharing.specs.Rebuild.{wholeBlocks, noParty, notWhole, rebuildLines, RebuildAnsweredBy, RebuiltExactly, NamedExactly, Rebuilds, EveryRebuild, RebuildWordsSettle}
 

@@ -34,7 +34,7 @@ use Rattle.staircase.proofs.Sizes.{block-some}
 use Rattle.agreement.specs.Agreement.{shareIn, GiveAll, Agree, enough, rebuilt, agrees, named, Lent, Agreement}
 use Rattle.agreement.proofs.Laws.{agreement, names-one, lent-left, to-all}
 use Rattle.dealer.proofs.Laws.{none-applies, written, padded-none-applies, padded-written}
-use Rattle.reader.specs.Rebuild.{disagreeing, blocksLent, lentRefusal, rebuildAnswer, rebuildOutput}
+use Rattle.agreement.specs.Rebuild.{disagreeing, blocksLent, lentRefusal, rebuildAnswer, rebuildOutput}
 use Rattle.sharing.specs.Rebuild.{OfSplit, OfSplitPadded, Asked, ComesBack, NamesTheLiar, RebuiltIsSplit, PaddedRebuiltIsSplit, LiarNamed, PaddedLiarNamed}
 use Rattle.sharing.proofs.RebuildCalls.{no-party, wrong-copy, told-of, some-bytes}
 

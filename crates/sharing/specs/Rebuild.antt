@@ -23,7 +23,8 @@ use Rattle.dealer.specs.Split.{splitOutput}
 use Rattle.dealer.specs.SplitPadded.{splitPaddedOutput}
 use Rattle.reader.specs.declared.rebuilding.RebuildAnswer.{RebuildAnswer}
 use Rattle.reader.specs.declared.rebuilding.RebuildAnswer.the-variants.{Rebuilt, Disagreeing, Refused}
-use Rattle.reader.specs.Rebuild.{disagreeing, rebuildAnswer, rebuildOutput, RebuildCall}
+use Rattle.agreement.specs.Rebuild.{disagreeing, rebuildAnswer, rebuildOutput}
+use Rattle.reader.specs.Rebuild.{RebuildCall}
 use Rattle.sharing.specs.Calls.{schemeLines, notRising}
 
 -- ---- the lines of the table

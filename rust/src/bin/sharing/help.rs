@@ -27,7 +27,7 @@ sharing splits a message into shares and opens it again from the beginnings of a
   sharing rebuild [--scheme S] --party P [--held FILE] OUT PARTY=FILE ..
       makes a party's share anew out of whole shares, and says how much of a held copy is wrong
   sharing check [--scheme S] PARTY=FILE ..
-      says whether whole shares agree, which one is wrong, and how many more may be lost
+      says whether whole shares agree, which one does not fit the others, and how many more may be lost
   sharing archive write FILE [SHARE ..]
   sharing archive list FILE
   sharing archive entry FILE NUMBER OUT

@@ -5,7 +5,7 @@ use crate::arguments::{file_before_parties, usage, Arguments};
 use crate::failure::{Done, Failure};
 use crate::files::{read, Input, Output, Place};
 use crate::parties::{check_equally_long, joined, read_files};
-use crate::report::{counted, say};
+use crate::report::{counted, listed, say};
 use crate::scheme::{Block, Scheme};
 use gilunavoi::library::{self, NotRebuilt};
 use gilunavoi::limits::MAX_MESSAGE;
@@ -102,19 +102,24 @@ impl Shares {
         let (parties, scheme) = (&self.parties, &self.scheme);
         let (length, enough, given) = (counted(self.length(), "byte"), self.enough(), parties.len());
         let detail = match (refusal, named, held) {
-            (7, ..) if !parties.contains(&party) && !(1..=scheme.n).contains(&party) => {
-                format!("the one to rebuild is {party}, and the scheme is {scheme}")
-            }
+            // The list is tested before the party that is wanted.
+            (7, ..) if self.list_is_right() => format!("the one to rebuild is {party}, and the scheme is {scheme}"),
             // The shares are as long as they have to be.
             (9, _, Some(held)) => format!("a held copy is as long as the shares, {length}, or empty, and {held}"),
             (17, ..) => format!(
                 "needed are whole shares of {enough} parties or more, and {given} were given; the scheme is {scheme}"
             ),
-            (18, Some(named), _) => return Failure::Refused(18, self.wrong_share_of(named)),
+            (18, Some(named), _) => self.does_not_fit(named),
             (18, None, _) => self.why_nobody_is_named(),
             _ => format!("the parties are {parties:?}, and the scheme is {scheme}"),
         };
         self.scheme.suspected(Failure::Refused(refusal, detail))
+    }
+
+    /// Whether the parties that lend a share are different ones of the scheme's. They are sorted.
+    fn list_is_right(&self) -> bool {
+        let different = self.parties.windows(2).all(|pair| pair[0] < pair[1]);
+        different && self.parties.iter().all(|party| (1..=self.scheme.n).contains(party))
     }
 
     /// So many shares are enough to open the message and to rebuild the others.
@@ -122,11 +127,13 @@ impl Shares {
         (self.scheme.n - self.scheme.r) as usize
     }
 
-    fn wrong_share_of(&self, party: u8) -> String {
+    /// What is said of the party that is named. Its share need not be the wrong one: others may have been made to fit
+    /// together.
+    fn does_not_fit(&self, party: u8) -> String {
         let file = self.parties.iter().zip(&self.files).find(|(other, _)| **other == party);
         let path = file.map_or(String::new(), |(_, file)| format!(", {:?},", file.path));
         format!(
-            "the share of party {party}{path} is wrong: the others agree without it\n\
+            "the share of party {party}{path} does not fit the others, which agree without it\n\
              sharing rebuild --party {party} rebuilds it from the others"
         )
     }
@@ -135,7 +142,7 @@ impl Shares {
         let (given, needed, n) = (self.parties.len(), self.enough() + 2, self.scheme.n);
         let only = if needed > n as usize { format!(", and there are only {n} parties") } else { String::new() };
         let why = if given < needed {
-            format!("{given} shares are too few to tell which one is wrong: that takes {needed}{only}")
+            format!("{given} shares are too few to tell which one does not fit: that takes {needed}{only}")
         } else {
             "more than one is wrong, or they are of different messages: whichever is left out, the others do not agree"
                 .to_string()
@@ -150,12 +157,34 @@ impl Shares {
 
     /// What is said of shares that agree.
     fn agree(&self) -> String {
-        let many = self.parties.len();
+        let (many, doubts) = (self.parties.len(), self.doubts());
         if many > self.enough() {
-            return format!("The {many} shares agree.\n");
+            return format!("The {many} shares agree.\n{doubts}");
         }
         let more = if many < self.scheme.n as usize { " It takes one more to notice a wrong one." } else { "" };
-        format!("Nothing could be checked: {many} shares always agree, right or wrong.{more}\n")
+        format!("Nothing could be checked: {many} shares always agree, right or wrong.{more}\n{doubts}")
+    }
+
+    /// Files that are hardly what they are taken for, and agree all the same: empty ones, and copies of one file.
+    fn doubts(&self) -> String {
+        if self.length() == 0 {
+            return "They are empty: shares of an empty message of the earlier form, or no shares at all.\n"
+                .to_string();
+        }
+        let alike =
+            |bytes: &[u8]| (0..self.files.len()).filter(|&i| self.files[i].bytes == bytes).collect::<Vec<usize>>();
+        let groups = self.files.iter().enumerate().map(|(place, file)| (place, alike(&file.bytes)));
+        let first_of_many = groups.filter(|(place, group)| group.len() > 1 && group[0] == *place);
+        first_of_many.map(|(_, group)| self.same_bytes(&group)).collect()
+    }
+
+    fn same_bytes(&self, places: &[usize]) -> String {
+        let parties = listed(places.iter().map(|&place| self.parties[place].to_string()));
+        let paths = listed(places.iter().map(|&place| format!("{:?}", self.files[place].path)));
+        format!(
+            "The files of the parties {parties}, {paths}, hold the same bytes: possible for shares of one message, but \
+             unlikely.\n"
+        )
     }
 
     /// How many more shares the parties can do without.

@@ -37,6 +37,15 @@ pub fn note(text: &str) {
     let _ = writeln!(std::io::stderr(), "sharing: {text}");
 }
 
+/// Two things or more in a row, as a sentence has them.
+pub fn listed(things: impl Iterator<Item = String>) -> String {
+    let things: Vec<String> = things.collect();
+    match &things[..] {
+        [others @ .., last] if !others.is_empty() => format!("{} and {last}", others.join(", ")),
+        _ => things.concat(),
+    }
+}
+
 /// A number and what it counts.
 pub fn counted(number: usize, thing: &str) -> String {
     match thing.strip_suffix('y') {

@@ -18,7 +18,7 @@ use Rattle.reader.specs.declared.ending.Ending.the-variants.{Told, Sough
 use Rattle.reader.specs.Decoding.{Found}
 use Rattle.reader.specs.Ending.{CanSeek, EndBy, OpenedBy, SeeksIn, TurnsReach}
 use Rattle.reader.proofs.CountedScheme.{A}
-use Rattle.reader.proofs.Skips.{all-read, all-sent}
+use Rattle.reader.proofs.Skips.{all-read, sent-whole}
 use Rattle.reader.proofs.RowOrder.{found-all, found-copied}
 use Rattle.reader.proofs.opening.open_into.Statement.{statement}
 use Rattle.reader.proofs.opening.open_into.Tie as tie
@@ -109,7 +109,7 @@ open-into-spec =
       d .decode .ensures .0,
       λ B K points W X.
           opened-none (a .how) (a .s) (a .counts .now) (a .d) (a .blocks) (a .many) (a .start) (d .decode .last .1 .1 .1 .1 .1 .1 .1 .1 .0) _ B (a .out .now) (e .end-by .result)
-          (s .pre .1) (d .decode .ensures .1 B K points W (all-sent (s .pre .0 .0) X)) (s .pre .0 .2) (X .blocks-are .0) (decoded-long d) (s .pre .0 .3) (e .end-by .ensures) (c .enum-told .given .1),
+          (s .pre .1) (d .decode .ensures .1 B K points W (sent-whole (s .pre .0 .0) X)) (s .pre .0 .2) (X .blocks-are .0) (decoded-long d) (s .pre .0 .3) (e .end-by .ensures) (c .enum-told .given .1),
     ))
     (λ c. omega (arith, work-room (c .before .before .before .before .before .before .before)))
     (λ c. omega (arith, work-room (c .before .before .before .before .before .before .before .before)))
@@ -130,6 +130,6 @@ open-into-spec =
       d .decode .ensures .0,
       λ B K points W X.
           opened-some (a .how) (a .s) (a .counts .now) (a .d) (a .blocks) (a .many) (a .start) (d .decode .last .1 .1 .1 .1 .1 .1 .1 .1 .0) _ B (a .out .now) (e .end-by .result)
-          (s .pre .1) (d .decode .ensures .1 B K points W (all-sent (s .pre .0 .0) X)) (s .pre .0 .2) (X .blocks-are .0) (decoded-long d) (s .pre .0 .3) (e .end-by .ensures) _ _ (k .before .end .given .1)
+          (s .pre .1) (d .decode .ensures .1 B K points W (sent-whole (s .pre .0 .0) X)) (s .pre .0 .2) (X .blocks-are .0) (decoded-long d) (s .pre .0 .3) (e .end-by .ensures) _ _ (k .before .end .given .1)
           (f .copy .ensures ∙ ap (take (length (a .out .now))) (part-to-end _ (a .start))),
     )))

@@ -1,7 +1,7 @@
 -- `reader::rebuilding::held_refused` meets its contract.
 -- Assumes nothing.
 use borrow.Author.Tests.{eq-eqb, ne-eqb}
-use Rattle.reader.specs.Rebuild.{heldRefused}
+use Rattle.agreement.specs.Rebuild.{heldRefused}
 use Rattle.reader.proofs.rebuilding.held_refused.Statement.{statement}
 use Rattle.reader.proofs.rebuilding.held_refused.Tie as tie
 

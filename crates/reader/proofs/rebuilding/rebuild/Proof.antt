@@ -19,7 +19,7 @@ use Rattle.scheme.specs.Check.{refusal}
 use Rattle.scheme.specs.Readers.{readersRefused}
 use Rattle.scheme.proofs.Laws.{Way, accepted-scheme, numbered, done, pass, stop-scheme, stop-true, pass-false, stop-other, pass-same}
 use Rattle.staircase.specs.Parameters.{Parameters, parameters, shareBytes}
-use Rattle.reader.specs.Rebuild.{blocksLent, wantedRefused, heldRefused, lentRefusal, rebuildAnswer, rebuildOutput}
+use Rattle.agreement.specs.Rebuild.{blocksLent, wantedRefused, heldRefused, lentRefusal, rebuildAnswer, rebuildOutput}
 use Rattle.reader.proofs.OpenerAnswers.{m-some}
 use Rattle.reader.proofs.RebuildAnswers.{turns-away, lost-low, unit-few, blocks-are, size-is, blocks-high, room-fits, size-small, all-small, lends, ends}
 use Rattle.reader.proofs.rebuilding.rebuild.Statement.{statement}

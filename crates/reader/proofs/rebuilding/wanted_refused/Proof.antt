@@ -1,7 +1,7 @@
 -- `reader::rebuilding::wanted_refused` meets its contract.
 -- Assumes nothing.
 use borrow.Author.Tests.{eq-eqb, ne-eqb}
-use Rattle.reader.specs.Rebuild.{wantedRefused}
+use Rattle.agreement.specs.Rebuild.{wantedRefused}
 use Rattle.reader.proofs.rebuilding.wanted_refused.Statement.{statement}
 use Rattle.reader.proofs.rebuilding.wanted_refused.Tie as tie
 

@@ -10,17 +10,24 @@ Shares agree if they are all shares of one message, whichever it is. How much th
 given:
 
   N - R             always agree, right or wrong. Nothing is checked: where a share is wrong, or a party or the
-                    scheme is, a share that is rebuilt from them is wrong too.
+                    scheme is, a share that is rebuilt from them is wrong too. The exit status is 0 all the same;
+                    the report says that nothing could be checked.
   N - R + 1         A wrong share is noticed, but not which one it is.
-  N - R + 2, more   A single wrong share is noticed, and its party named. Where more than one is wrong, or they are
-                    shares of different messages, nobody is named.
+  N - R + 2, more   A single wrong share is noticed, and its party named: the one without whose share all others
+                    agree. Where more than one is wrong, or they are shares of different messages, mostly nobody
+                    is named. But of C shares C - (N - R) wrong ones that were made to fit together can have a
+                    right one named.
 
 Shares that do not agree are refused, 18, and nothing is written; the exit status is 1. Wrong shares are noticed as
 long as N - R right ones are given too: who can replace all but N - R - 1 of those that are given can replace them
 by others that agree. And where all but one are shares of another message, that one is named.
 
+Empty files agree, as the shares of an empty message of the earlier form, and so do copies of one file, whatever is
+in it. The report says where files are empty and which ones hold the same bytes; the exit status stays 0.
+
 Shares of the former default, those that were split without a scheme while that was {former}, need
---scheme {former}. Without it N - R of them pass, and more hardly ever agree.
+--scheme {former}. Without it N - R of them pass, and what is rebuilt is mostly wrong. More hardly ever
+agree; but of a message of at most 10 bytes, or one that is mostly zeros, they may, or a right one may be named.
 ",
         former = Scheme::former_default().in_a_row()
     )

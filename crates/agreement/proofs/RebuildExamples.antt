@@ -24,8 +24,8 @@ use Rattle.staircase.specs.Rows.{rowOf, keyed, copied, withGroups, rowsOf}
 use Rattle.staircase.specs.Shares.{staircase}
 use Rattle.staircase.specs.Opening.{upperPart, lowerPart, placed, openedFrom, openedBlock, openedLower, openedKeys}
 use Rattle.staircase.specs.Exactness.{openedString}
 use Rattle.agreement.specs.Agreement.{foundBlocks, foundKeys, rebuilt, agrees, named}
-use Rattle.reader.specs.Rebuild.{disagreeing, blocksLent, wantedRefused, heldRefused, lentRefusal, rebuildAnswer, rebuildOutput}
+use Rattle.agreement.specs.Rebuild.{disagreeing, blocksLent, wantedRefused, heldRefused, lentRefusal, rebuildAnswer, rebuildOutput}
 
 -- of four parties two are enough, so four can name one
 abbrev four : Parameters
