@@ -1,7 +1,9 @@
 //! Shares that were stored under the former default: they come back by naming it. And what comes of them where the parties,
 //! the readers or both forget it, since nothing in a share tells its scheme: docs/former-default.md has what is asserted here.
 
-use gilunavoi::cases::{parties, Call, Form, Scheme};
+use gilunavoi::cases::rebuild::{shares, RebuildCall};
+use gilunavoi::cases::{parties, Call, Form, Scheme, FORMS};
+use gilunavoi::library::NotRebuilt;
 use gilunavoi::limits::MAX_MESSAGE;
 use gilunavoi::random::Random;
 use gilunavoi::{calls, library};
@@ -171,4 +173,37 @@ fn padded_messages() {
     }
     println!("{without_end} refused for their end, {by_chance} opened by chance");
     assert!(by_chance > 0 && by_chance < without_end / 100);
+}
+
+/// A share is rebuilt in the default scheme from shares of the former default, the right one held: in how many bytes it is
+/// another.
+fn rebuilt_without_it(random: &mut Random, form: Form, length: usize, many: u8) -> library::Rebuilt {
+    let shares = shares(random, form, &Scheme::former_default(), length);
+    let call = RebuildCall::drawn(random, &Scheme::default(), &shares, many);
+    let right = &shares[(call.party as usize - 1) * call.out..][..call.out];
+    calls::rebuild(&call, &call.shares, right, &mut vec![0; call.out])
+}
+
+/// Three shares always pass. More do not agree, but those of the shortest messages, which are right in both schemes, and
+/// some of short ones by chance; and of short ones a party is named now and then, though no share is wrong.
+#[test]
+fn rebuilding_shares() {
+    let mut random = Random::new(32);
+    let (mut short, mut agreed, mut named) = (0, 0, 0);
+    for case in 0..60_000 {
+        let (form, length, many) = (FORMS[case % 2], random.below(60), 3 + random.below(3) as u8);
+        let answer = rebuilt_without_it(&mut random, form, length, many);
+        let same_in_both = if form == Form::Padded { 1 } else { 2 };
+        short += (length > same_in_both && length <= 10 && many > 3) as usize;
+        match answer {
+            Ok(differing) if length <= same_in_both => assert_eq!(differing, 0),
+            Ok(_) if many == 3 => {}
+            Ok(_) if length <= 10 => agreed += 1,
+            Err(NotRebuilt { refusal: 18, party: None }) if many > 3 => {}
+            Err(NotRebuilt { refusal: 18, party: Some(_) }) if many == 5 && length <= 10 => named += 1,
+            _ => panic!("{length} bytes, {form:?}, {many} shares: {answer:?}"),
+        }
+    }
+    println!("of {short} times with short messages {agreed} agreed, and {named} times a party was named");
+    assert!(agreed > 0 && named > 0 && agreed + named < short / 50);
 }

@@ -24,6 +24,8 @@ const HINT: &str = "\neach file has to be a whole share, and no prefix\n\
 const MANY: &str =
     "\nmore than one is wrong, or they are of different messages: whichever is left out, the others do not agree";
 
+const UNLIKELY: &str = "possible for shares of one message, but unlikely.\n";
+
 impl Folder {
     /// A file of these bytes, of which those at these places are made others.
     fn damaged(&self, name: &str, from: &str, places: &[usize]) {
@@ -155,11 +157,11 @@ fn a_wrong_share_is_named() {
             folder.damaged("bad", &format!("shares/share-{party}"), places);
             let words = of(&[1, 2, 3, 4, 5]).replace(&format!("shares/share-{party}"), "bad");
             let detail = format!(
-                "\nthe share of party {party}, \"bad\", is wrong: the others agree without it\n\
-                 sharing rebuild --party {party} rebuilds it from the others\n"
+                "\nthe share of party {party}, \"bad\", does not fit the others, which agree without it\n\
+                 sharing rebuild --party {party} rebuilds it from the others\n\
+                 the scheme is the default, 5,2,2,5,4,3; shares of the former default need --scheme 5,2,1,5,4,3\n"
             );
             disagree(&folder, "", &words, &detail);
-            assert!(!folder.fails(&format!("check{words}"), 1).contains("the scheme is"), "the scheme is not in doubt");
             let others: Vec<usize> = (1..=5).filter(|&other| other != party).collect();
             let said = folder.rebuilds("--held bad ", party, &others);
             assert!(
@@ -170,13 +172,70 @@ fn a_wrong_share_is_named() {
     }
 }
 
+/// The second of two wrong shares is rebuilt from the first: party 3, whose share is right, is named.
+#[test]
+fn a_right_share_is_named() {
+    let folder = folder_with_shares("rebuild-innocent");
+    folder.write("bad-1", 30);
+    folder.says(&format!("rebuild --party 2 bad-2 1=bad-1{}", of(&[4, 5])));
+    let named = "\nthe share of party 3, \"shares/share-3\", does not fit the others, which agree without it\n";
+    disagree(&folder, "", &format!(" 1=bad-1 2=bad-2{}", of(&[3, 4, 5])), named);
+}
+
+/// What both commands say after these words of files that agree, though they are hardly what they are taken for.
+fn doubted(folder: &Folder, words: &str, doubts: &str) {
+    let nothing =
+        "Nothing could be checked: 3 shares always agree, right or wrong. It takes one more to notice a wrong one.\n";
+    let agree = match words.split(' ').count() - 1 {
+        3 => nothing.to_string(),
+        many => format!("The {many} shares agree.\n"),
+    };
+    let checked = folder.says(&format!("check{words}"));
+    assert!(
+        checked.starts_with(&format!("{agree}{doubts}")) && checked.ends_with(&format!(".\n{SCHEME}")),
+        "{checked}"
+    );
+    assert_eq!(checked.lines().count(), 3 + doubts.lines().count(), "{checked}");
+    let rebuilt = folder.says(&format!("rebuild --party 2 out{words}"));
+    assert!(rebuilt.ends_with(&format!("\nThere was no held copy.\n{agree}{doubts}{SCHEME}")), "{rebuilt}");
+    folder.remove("out");
+}
+
+#[test]
+fn empty_files() {
+    let folder = Folder::new("rebuild-empty");
+    folder.write("empty", 0);
+    let doubts = "The files are empty: they are shares of an empty message of the earlier form, or no shares at all.\n";
+    doubted(&folder, " 1=empty 2=empty 3=empty", doubts);
+    doubted(&folder, " 1=empty 2=empty 3=empty 4=empty 5=empty", doubts);
+}
+
+/// Copies of one file agree, whatever is in it.
+#[test]
+fn the_same_bytes() {
+    let folder = folder_with_shares("rebuild-same");
+    fs::copy(folder.0.join("shares/share-3"), folder.0.join("copy")).expect("a copy");
+    let doubts = |files: &str| format!("The files of the parties {files}, hold the same bytes: {UNLIKELY}");
+    doubted(&folder, " 1=copy 3=shares/share-3 4=shares/share-4", &doubts("1 and 3, \"copy\" and \"shares/share-3\""));
+    let five = doubts("1, 2, 3, 4 and 5, \"copy\", \"copy\", \"shares/share-3\", \"copy\" and \"copy\"");
+    doubted(&folder, " 5=copy 4=copy 3=shares/share-3 1=copy 2=copy", &five);
+    // Two pairs, in a scheme in which four parties are needed.
+    split(&folder, "--scheme 5,1,2,5,4 ", 25, 30);
+    fs::copy(folder.0.join("shares/share-1"), folder.0.join("one")).expect("a copy");
+    fs::copy(folder.0.join("shares/share-2"), folder.0.join("two")).expect("a copy");
+    let said = folder.says(&format!("check --scheme 5,1,2,5,4 3=two 4=one{}", of(&[1, 2])));
+    let [first, second] =
+        [doubts("1 and 4, \"shares/share-1\" and \"one\""), doubts("2 and 3, \"shares/share-2\" and \"two\"")];
+    assert!(said.contains(&format!("one.\n{first}{second}No more share may be lost")), "{said}");
+}
+
 #[test]
 fn nobody_is_named() {
     let folder = folder_with_shares("rebuild-unnamed");
     for party in 1..=4 {
         folder.damaged(&format!("bad-{party}"), &format!("shares/share-{party}"), &[party]);
     }
-    let few = format!("\n4 shares are too few to tell which one is wrong: that takes 5{HINT}");
+    let few = format!("\n4 shares are too few to tell which one does not fit: that takes 5{HINT}");
     disagree(&folder, "", &format!(" 1=bad-1{}", of(&[2, 3, 5])), &few);
     let many = format!("{MANY}{HINT}");
     disagree(&folder, "", &format!("{} 2=bad-2 4=bad-4", of(&[1, 3, 5])), &many);
@@ -184,7 +243,7 @@ fn nobody_is_named() {
     // Five parties of which one may be absent: there is nobody more to ask.
     split(&folder, "--scheme 5,1,2,5,4 ", 25, 30);
     folder.damaged("bad", "shares/share-5", &[2]);
-    let only = "\n5 shares are too few to tell which one is wrong: that takes 6, and there are only 5 parties\n";
+    let only = "\n5 shares are too few to tell which one does not fit: that takes 6, and there are only 5 parties\n";
     disagree(&folder, "--scheme 5,1,2,5,4 ", &format!("{} 5=bad", of(&[1, 2, 3, 4])), only);
 }
 

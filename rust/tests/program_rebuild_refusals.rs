@@ -35,6 +35,11 @@ fn refusals() {
         let detail = format!("\nthe one to rebuild is {party}, and the scheme is N 5, R 2, ");
         folder.refuses(&format!("rebuild --party {party} out{}", of(&[1, 2])), 7, &detail);
     }
+    // Where the list is at fault too, it is blamed: it is tested first.
+    for (words, list) in [(of(&[1, 2, 2]), "[1, 2, 2]"), (format!(" 6=keys{}", of(&[1, 2])), "[1, 2, 6]")] {
+        let detail = format!("\nthe parties are {list}, and the scheme is N 5, R 2, ");
+        folder.refuses(&format!("rebuild --party 6 out{words}"), 7, &detail);
+    }
     let few =
         "\nneeded are whole shares of 3 parties or more, and 2 were given; the scheme is N 5, R 2, Z 2, counts 5,4,3\n";
     both_refuse(&folder, &of(&[1, 3]), 17, few);

@@ -174,7 +174,13 @@ fn every_byte() {
     println!("{bytes} bytes");
 }
 
-/// Nobody is named where two shares are wrong and n - r right ones are left, whichever two.
+/// For more equations than these the other implementation takes long.
+fn has_few_equations(scheme: &Scheme) -> bool {
+    scheme.n as usize * scheme.b <= 320
+}
+
+/// Whichever two are wrong, with n - r right ones left. Where there are no more than these, the two may fit together by
+/// chance, and a right one is named then: the other implementation tells. With more, nobody is named.
 #[test]
 fn two_wrong_shares() {
     let (mut random, mut pairs) = (Random::new(65), 0);
@@ -187,12 +193,81 @@ fn two_wrong_shares() {
                 for place in [one, other] {
                     DAMAGES[random.below(DAMAGES.len())](&mut call, place, &mut random);
                 }
-                as_expected(&call, &disagreement(None), &mut random);
+                if call.spare() > 2 {
+                    as_expected(&call, &disagreement(None), &mut random);
+                }
+                let answer = if has_few_equations(scheme) {
+                    rebuild(&call, &mut random)
+                } else {
+                    calls::rebuild(&call, &call.shares, &call.held, &mut vec![0; call.out])
+                };
+                assert_eq!(answer.map_err(|no| no.refusal), Err(18), "{call:?}");
                 pairs += 1;
             }
         }
     }
     println!("{pairs} pairs");
+}
+
+/// In blocks of one byte, with one block, a pair in a hundred or so fits together.
+#[test]
+fn two_wrong_shares_that_fit_by_chance() {
+    let (mut random, mut named) = (Random::new(68), 0);
+    for scheme in accepted([(4, 2, 1, &[2]), (6, 2, 3, &[4])]) {
+        for _ in 0..2000 {
+            let shares = shares(&mut random, Form::Earlier, &scheme, 1);
+            let mut call = RebuildCall::drawn(&mut random, &scheme, &shares, scheme.n);
+            let first = random.below(scheme.n as usize - 1);
+            [first, first + 1].into_iter().for_each(|place| call.damage(place, 0, &mut random));
+            let refused = rebuild(&call, &mut random).expect_err("shares that do not agree");
+            assert!(refused.party.is_none_or(|party| ![first, first + 1].contains(&(party as usize - 1))), "{call:?}");
+            named += refused.party.is_some() as usize;
+        }
+    }
+    println!("a right one was named {named} times of 4000");
+    assert!(named > 10);
+}
+
+/// All parties of a list but the innocent one hold shares that fit together, n - r - 1 of them their own: with one wrong
+/// share these are n - r, and the other wrong ones are rebuilt from them.
+fn made_to_fit(scheme: &Scheme, shares: &[u8], list: &[u8], innocent: u8, random: &mut Random) -> RebuildCall {
+    let (mut all, share) = (shares.to_vec(), shares.len() / scheme.n as usize);
+    let mut wrong: Vec<u8> = list.iter().copied().filter(|&party| party != innocent).collect();
+    wrong.rotate_left(random.below(list.len() - 1));
+    let mut fitting = wrong.split_off(list.len() - (scheme.n - scheme.r) as usize);
+    fitting.push(wrong[0]);
+    fitting.sort();
+    for &party in &wrong {
+        let call = RebuildCall::new(scheme, &all, fitting.clone(), party);
+        let out = &mut all[(party as usize - 1) * share..][..share];
+        if party == wrong[0] {
+            out.copy_from_slice(&changed(random, out, share));
+        } else {
+            calls::rebuild(&call, &call.shares, &call.held, out).expect("an accepted call");
+        }
+    }
+    RebuildCall::new(scheme, &all, list.to_vec(), innocent)
+}
+
+/// As many wrong shares as are lent above n - r have a right one named, whichever it is, if they were made for it.
+#[test]
+fn wrong_shares_that_were_made_to_fit() {
+    let (mut random, mut calls) = (Random::new(69), 0);
+    for scheme in schemes().iter().filter(|scheme| scheme.r >= 2) {
+        let shares = shares(&mut random, Form::Padded, scheme, 2 * scheme.m);
+        for many in scheme.n - scheme.r + 2..=scheme.n {
+            let list = RebuildCall::drawn(&mut random, scheme, &shares, many).parties;
+            for &innocent in &list {
+                let call = made_to_fit(scheme, &shares, &list, innocent, &mut random);
+                as_expected(&call, &disagreement(Some(innocent)), &mut random);
+                if has_few_equations(scheme) {
+                    assert_eq!(rebuild(&call, &mut random).map_err(|no| no.party), Err(Some(innocent)));
+                }
+                calls += 1;
+            }
+        }
+    }
+    println!("{calls} calls");
 }
 
 /// Which message is the right one nobody can tell: the odd share is named, also where all others are those of another.

@@ -9,6 +9,7 @@ use crate::report::{counted, listed, say};
 use crate::scheme::{Block, Scheme};
 use gilunavoi::library::{self, NotRebuilt};
 use gilunavoi::limits::MAX_MESSAGE;
+use std::collections::BTreeMap;
 use std::ffi::{OsStr, OsString};
 use std::path::PathBuf;
 
@@ -49,6 +50,9 @@ fn told_of(held: Option<&Input>, wrong: u64) -> String {
         (many, all) => format!("{many} of the {all} of the held copy {path:?} were wrong.\n"),
     }
 }
+
+const EMPTY: &str =
+    "The files are empty: they are shares of an empty message of the earlier form, or no shares at all.\n";
 
 /// Whole shares of some parties.
 struct Shares {
@@ -168,14 +172,15 @@ impl Shares {
     /// Files that are hardly what they are taken for, and agree all the same: empty ones, and copies of one file.
     fn doubts(&self) -> String {
         if self.length() == 0 {
-            return "They are empty: shares of an empty message of the earlier form, or no shares at all.\n"
-                .to_string();
+            return EMPTY.to_string();
         }
-        let alike =
-            |bytes: &[u8]| (0..self.files.len()).filter(|&i| self.files[i].bytes == bytes).collect::<Vec<usize>>();
-        let groups = self.files.iter().enumerate().map(|(place, file)| (place, alike(&file.bytes)));
-        let first_of_many = groups.filter(|(place, group)| group.len() > 1 && group[0] == *place);
-        first_of_many.map(|(_, group)| self.same_bytes(&group)).collect()
+        let mut places: BTreeMap<&[u8], Vec<usize>> = BTreeMap::new();
+        for (place, file) in self.files.iter().enumerate() {
+            places.entry(&file.bytes).or_default().push(place);
+        }
+        let mut alike: Vec<Vec<usize>> = places.into_values().filter(|places| places.len() > 1).collect();
+        alike.sort();
+        alike.iter().map(|places| self.same_bytes(places)).collect()
     }
 
     fn same_bytes(&self, places: &[usize]) -> String {
