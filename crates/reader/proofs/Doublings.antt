@@ -18,7 +18,7 @@ use Rattle.gf256.proofs.Shifting.{odd, even}
 use Rattle.interpolation.specs.Polynomial.{sumTo}
 use Rattle.interpolation.proofs.Laws.{sumTo-same, sumTo-zero, sumTo-linear}
 use Rattle.columns.specs.Columns.{flatColumn}
-use Rattle.reader.specs.Decoding.{combined, weighted}
+use Rattle.reader.specs.Decoding.{combined}
 
 -- the byte of column i in block k
 abbrev byteAt : List ℕ → ℕ → ℕ → ℕ
@@ -136,21 +136,16 @@ module _ (columns weights : List ℕ) (n : ℕ) where
         hm
 
   -- at the end the bits are the whole weights
-  pub bits-all : {bit : ℕ} {sum : List ℕ} → bit ≤ 0 → BitsAbove columns weights n bit sum → sum ≡ weighted columns weights n
-  unfolding weighted
-  bits-all {bit} {sum} none B =
+  pub bits-all : (table : List (List ℕ)) (e : ℕ) {bit : ℕ} {sum : List ℕ} → ((i : ℕ) → i < n → getD weights i 0 ≡ getD (getD table i []) e 0)
+      → bit ≤ 0 → BitsAbove columns weights n bit sum → sum ≡ combined columns table e n
+  unfolding combined
+  bits-all table e {bit} {sum} chosen none B =
       by (B .place) (B .next) (B .sums)
-      ∙ tabulate-same lanes _ _ (λ k h. sumTo-same n _ _ (λ i l. ap (λ (w : ℕ). w ⊗ byteAt columns i k) (div-one (getD weights i 0))))
+      ∙ tabulate-same lanes _ _
+      (λ k h. sumTo-same n _ _ (λ i l. ap (λ (w : ℕ). w ⊗ byteAt columns i k) (div-one (getD weights i 0) ∙ chosen i l)))
     where
       by : (j : ℕ) → bit ≡ 2 ^ j / 2 → sum ≡ upper columns weights n (2 ^ j) → sum ≡ upper columns weights n 1
       by zero e s = s
       by (suc j) e s =
           let is : bit ≡ 2 ^ j = e ∙ half j in
           absurd (omega (arith, pow-pos j))
-
-  -- by the weights of one degree, out of a table of them
-  pub weighted-chosen : (table : List (List ℕ)) (e : ℕ) → ((i : ℕ) → i < n → getD weights i 0 ≡ getD (getD table i []) e 0)
-      → weighted columns weights n ≡ combined columns table e n
-  unfolding weighted combined
-  weighted-chosen table e chosen =
-      tabulate-same lanes _ _ (λ k h. sumTo-same n _ _ (λ i l. ap (λ (w : ℕ). w ⊗ byteAt columns i k) (chosen i l)))

@@ -15,7 +15,7 @@ use Rattle.interpolation.proofs.Laws.{opening-solved}
 use Rattle.reader.specs.declared.decoding.Sizes.{Sizes}
 use Rattle.reader.specs.Decoding.{combined, KnownColumns, SentColumns, SizesFit, RowFits, WeightsOf, RowOf, HasPlaces}
 
-combined-at : (columns : List ℕ) (weights : List (List ℕ)) (e n k : ℕ) → k < lanes
+pub combined-at : (columns : List ℕ) (weights : List (List ℕ)) (e n k : ℕ) → k < lanes
     → getD (combined columns weights e n) k 0 ≡ sumTo n (λ i. getD (getD weights i []) e 0 ⊗ getD columns (i * lanes + k) 0)
 unfolding combined
 combined-at columns weights e n k h = getD-tabulate lanes _ k 0 h

@@ -15,7 +15,7 @@ use Rattle.scheme.specs.declared.Scheme.{Scheme}
 use Rattle.staircase.specs.Coefficients.{shareByte}
 use Rattle.rows.specs.Sources.{RowOrigins}
 use Rattle.reader.specs.Decoding.{WeightsOf, Sent}
-use Rattle.reader.specs.Filling.{ChosenFor, RowFilled, FillsRow, FillsShare}
+use Rattle.reader.specs.Filling.{FirstColumn, ChosenFor, RowFilled, FillsRow, FillsShare}
 use Rattle.reader.proofs.RowFacts.{RowAt, top, sizes, row-weights, row-values}
 
 -- the output has the bytes of the share in the first n rows, for the blocks and keys that have these prefixes, where the buffer has the blocks
@@ -37,9 +37,10 @@ module _ {s : Scheme} {ds : List ℕ} {d skip blocks : ℕ} {prefixes : List ℕ
   value-there B K points X x t h = rw (row-of j t blocks h, place-of j t blocks h)
 
   -- its values are written after those of the rows before it
-  pub rows-more : (chosen work o o′ : List ℕ) → FillsRow (sizes R) (top R) (j * blocks) places chosen prefixes work blocks o o′
+  pub rows-more : (chosen : List ℕ) (table : List (List ℕ)) (work o o′ : List ℕ) → FirstColumn chosen table
+      → FillsRow (sizes R) (top R) (j * blocks) places table prefixes work blocks o o′
       → FillsRows s ds d blocks chosen prefixes work j o → FillsRows s ds d blocks chosen prefixes work (j + 1) o′
-  rows-more chosen work o o′ F before B K points weights x W C X same i h =
+  rows-more chosen table work o o′ T F before B K points weights x W C X same i h =
       ⊎-elim (λ (l : i < j * blocks). filled .before-q i l ∙ before B K points weights x W C X same i l)
       (λ (l : j * blocks ≤ i).
       let at : j * blocks + (i - j * blocks) ≡ i = omega arith in
@@ -49,7 +50,7 @@ module _ {s : Scheme} {ds : List ℕ} {d skip blocks : ℕ} {prefixes : List ℕ
     where
       filled : RowFilled x (j * blocks) blocks (row-values R O B K points X .row) o o′
       filled =
-          F B points weights x (row-weights R W) C (row-values R O B K points X)
+          F B points chosen weights x (row-weights R W) C T (row-values R O B K points X)
           (λ t e _ _ _ _. ap (λ (l : List ℕ). getD l (t * s .block + getD places e 0) 0) same)
 
 -- all rows

@@ -34,10 +34,6 @@ maxUsize = 18446744073709551615
 unfoldable pub combined : List ℕ → List (List ℕ) → ℕ → ℕ → List ℕ
 combined columns weights e n = tabulate lanes (λ k. sumTo n (λ i. getD (getD weights i []) e 0 ⊗ getD columns (i * lanes + k) 0))
 
--- the same by a list of weights, one a column
-unfoldable pub weighted : List ℕ → List ℕ → ℕ → List ℕ
-weighted columns chosen n = tabulate lanes (λ k. sumTo n (λ i. getD chosen i 0 ⊗ getD columns (i * lanes + k) 0))
-
 -- the columns from degree d up: a row's known coefficients, those of degrees d to top − 1, as they stand in the work buffer
 pub record KnownColumns (work places : List ℕ) (d top t m : ℕ) (columns : List ℕ) : Type 0 where
   pub long : length columns ≡ side * lanes
@@ -112,6 +108,12 @@ pub record Solved (s n m z d : ℕ) (places B w w′ : List ℕ) : Type 0 where
   pub long : length w′ ≡ length w
   pub still : (i : ℕ) → getD w i 0 ≡ getD B i 0 → getD w′ i 0 ≡ getD B i 0
   pub new : HasPlaces s n m z d places B w′
+
+-- what the loop over the degrees z to d − 1 does: said for every B that has the sums at their places in the blocks from t on, `many` of them
+abbrev pub SolvesBatch : List ℕ → List (List ℕ) → List ℕ → ℕ → ℕ → ℕ → ℕ → ℕ → ℕ → List ℕ → List ℕ → Type 0
+SolvesBatch columns weights places z d top t m many w w′ =
+    (B : List ℕ) → ((e k : ℕ) → z ≤ e → e < d → k < many → getD (combined columns weights e top) k 0 ≡ getD B (t * m + getD places e 0 + k * m) 0)
+    → Solved t (t + many) m z d places B w w′
 
 -- what a row's loop over the blocks from s to n − 1 does: said for every B that has these prefixes at points with these weights, and is known from
 -- degree d up

@@ -2,7 +2,7 @@
 -- are read, which are whole shares; the contracts speak of every such B and K, and of every point x.
 -- Assumes nothing.
 use mathlib.Core.Path.{_≡_}
-use mathlib.Core.List.{List}
+use mathlib.Core.List.{List, []}
 use Prim.Native.Nat.{ℕ, _+_, _*_, _≤_, _<_}
 use lib.ListN.{length, getD}
 use Rattle.lists.specs.Table.{tabulate}
@@ -18,6 +18,10 @@ use Rattle.reader.specs.Decoding.{WeightsOf, RowOf, HasPlaces, Sent}
 abbrev pub ChosenFor : List (List ℕ) → ℕ → ℕ → List ℕ → Type 0
 ChosenFor weights d x chosen = chosen ≡ tabulate side (valueWeight weights d x)
 
+-- they stand in the first column of a table
+abbrev pub FirstColumn : List ℕ → List (List ℕ) → Type 0
+FirstColumn chosen table = (i : ℕ) → i < side → getD (getD table i []) 0 0 ≡ getD chosen i 0
+
 -- the output has the row's values at x, of the first n blocks, from place q on, and elsewhere what it had
 pub record RowFilled (x q n : ℕ) (row : ℕ → List ℕ) (before after : List ℕ) : Type 0 where
   pub long : length after ≡ length before
@@ -26,9 +30,10 @@ pub record RowFilled (x q n : ℕ) (row : ℕ → List ℕ) (before after : List
   pub after-q : (i : ℕ) → q + n ≤ i → getD after i 0 ≡ getD before i 0
 
 -- what a row's loop over the blocks below n does: said for every B that has these prefixes at points with these weights, and is known from degree d up
-abbrev pub FillsRow : Sizes → ℕ → ℕ → List ℕ → List ℕ → List ℕ → List ℕ → ℕ → List ℕ → List ℕ → Type 0
-FillsRow sizes top q places chosen prefixes work n before after =
-    (B points : List ℕ) (weights : List (List ℕ)) (x : ℕ) → WeightsOf points (sizes .d) top weights → ChosenFor weights (sizes .d) x chosen
+abbrev pub FillsRow : Sizes → ℕ → ℕ → List ℕ → List (List ℕ) → List ℕ → List ℕ → ℕ → List ℕ → List ℕ → Type 0
+FillsRow sizes top q places table prefixes work n before after =
+    (B points chosen : List ℕ) (weights : List (List ℕ)) (x : ℕ) → WeightsOf points (sizes .d) top weights → ChosenFor weights (sizes .d) x chosen
+    → FirstColumn chosen table
     → (R : RowOf sizes top q places points prefixes B) → HasPlaces 0 (sizes .blocks) (sizes .block) (sizes .d) top places B work
     → RowFilled x q n (R .row) before after
 

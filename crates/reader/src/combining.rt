@@ -28,38 +28,41 @@ pub(crate) fn combine(
 {
     let mut chosen = [0u8; SIDE];
     choose(weights, n, e, &mut chosen);
-    combine_by(columns, &chosen, n)
-}
-
-// The same by the weights of the columns at hand.
-pub(crate) fn combine_by(columns: &[u8], chosen: &[u8; SIDE], n: usize) -> [u8; LANES]
-    requires { ⌜ (length (now columns) ≡ side * lanes) × (n ≤ side) ⌝ }
-    ensures { λ r. ⌜ r ≡ decoding.weighted (now (columns .entry)) (now (chosen .entry)) n ⌝ }
-{
-    let mut sum = add_marked([0u8; LANES], columns, chosen, n, 128);
+    let mut sum = add_marked([0u8; LANES], columns, &chosen, n, 128);
     let mut bit: u8 = 64;
     while 0 < bit {
         let twice = lanes::double_each(sum);
-        let more = add_marked(twice, columns, chosen, n, bit);
+        let more = add_marked(twice, columns, &chosen, n, bit);
         sum = more;
         bit = bit / 2;
     }
     sum
 }
 
-// The first n weights at degree e. They are filled in place: returned by value they are slower to read.
+// The first n weights at degree e, which are bytes. They are filled in place: returned by value they are
+// slower to read.
 fn choose(weights: &[[u8; SIDE]; SIDE], n: usize, e: usize, chosen: &mut [u8; SIDE])
     requires { ⌜ (length (now chosen) ≡ side) × (n ≤ side) × (e < side) ⌝ }
-    ensures { λ _. ⌜ ((i : ℕ) → i < n → getD (now (chosen .exit)) i 0 ≡ getD (getD (now (weights .entry)) i []) e 0) ⌝ }
+    ensures chosen { λ _. ⌜ ((i : ℕ) → i < n → getD (now (chosen .exit)) i 0 ≡ getD (getD (now (weights .entry)) i []) e 0) ⌝ }
+    ensures bytes { λ _. ⌜ ((i : ℕ) → i < n → getD (getD (now (weights .entry)) i []) e 0 < 256) ⌝ }
 {
     let mut i = 0;
     while i < n {
-        chosen[i] = weights[i][e];
+        chosen[i] = weight(weights, i, e);
         i += 1;
     }
 }
 
-// Adds those of the first n columns whose weight has this bit: w / bit is odd. The weights are bytes.
+// One of the weights. It has a function of its own, for the proof: a value that is returned is known to
+// be a byte.
+fn weight(weights: &[[u8; SIDE]; SIDE], i: usize, e: usize) -> u8
+    requires { ⌜ (i < side) × (e < side) ⌝ }
+    ensures { λ r. ⌜ r ≡ getD (getD (now (weights .entry)) i []) e 0 ⌝ }
+{
+    weights[i][e]
+}
+
+// Adds those of the first n columns whose weight has this bit: w / bit is odd.
 fn add_marked(
     sum: [u8; LANES],
     columns: &[u8],
@@ -68,26 +71,16 @@ fn add_marked(
     bit: u8,
 ) -> [u8; LANES]
     requires { ⌜ (length (now columns) ≡ side * lanes) × (n ≤ side) × (0 < bit) ⌝ }
-    ensures added { λ r. ⌜ r ≡ tabulate lanes (λ k. getD sum k 0 ⊕ sumTo n (λ i. getD (now (columns .entry)) (i * lanes + k) 0 * (getD (now (weights .entry)) i 0 / bit % 2))) ⌝ }
-    ensures bytes { λ _. ⌜ ((i : ℕ) → i < n → getD (now (weights .entry)) i 0 < 256) ⌝ }
+    ensures { λ r. ⌜ r ≡ tabulate lanes (λ k. getD sum k 0 ⊕ sumTo n (λ i. getD (now (columns .entry)) (i * lanes + k) 0 * (getD (now (weights .entry)) i 0 / bit % 2))) ⌝ }
 {
     let mut total = sum;
     let mut i = 0;
     while i < n {
-        if weight(weights, i) / bit % 2 == 1 {
+        if weights[i] / bit % 2 == 1 {
             let more = lanes::sum_each(total, columns::column(columns, i));
             total = more;
         }
         i += 1;
     }
     total
-}
-
-// One of the weights. It has a function of its own, for the proof: a value that is returned is known to
-// be a byte.
-fn weight(weights: &[u8; SIDE], i: usize) -> u8
-    requires { ⌜ i < side ⌝ }
-    ensures { λ r. ⌜ r ≡ getD (now (weights .entry)) i 0 ⌝ }
-{
-    weights[i]
 }

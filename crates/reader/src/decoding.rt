@@ -8,7 +8,8 @@ ghost use Rattle.lists.specs.Without.{skipped};
 ghost use Rattle.gf256.specs.Lanes.{lanes};
 ghost use Rattle.interpolation.specs.Interpolation.{side};
 ghost use Rattle.reader.specs.Decoding as decoding;
-ghost use Rattle.reader.specs.Decoding.{Solves};
+ghost use Rattle.scheme.specs.Limits.{maxBlock, maxBlocks};
+ghost use Rattle.reader.specs.Decoding.{Solves, SolvesBatch};
 use crate::combining::combine;
 use crate::copying::copy;
 use columns::FLAT;
@@ -113,6 +114,32 @@ pub(crate) fn load_parties(
     }
 }
 
+// Writes the coefficients of degrees z to d - 1 of a row in the blocks of m bytes from t on, `many` of them, to their places:
+// each is the sum of the first `top` columns, times their weights at its degree.
+pub(crate) fn solve_batch(
+    columns: &[u8],
+    weights: &[[u8; SIDE]; SIDE],
+    places: &[usize; SIDE],
+    z: usize,
+    d: usize,
+    top: usize,
+    t: usize,
+    m: usize,
+    many: usize,
+    work: &mut [u8],
+)
+    requires sums { ⌜ (length (now columns) ≡ side * lanes) × (z ≤ d) × (d ≤ side) × (top ≤ side) ⌝ }
+    requires blocks { ⌜ (many ≤ lanes) × (t ≤ maxBlocks) × (m ≤ maxBlock) × decoding.PlacesBelow z d m (now places) × ((t + many) * m ≤ length (now work)) ⌝ }
+    ensures { λ _. ⌜ SolvesBatch (now (columns .entry)) (now (weights .entry)) (now (places .entry)) z d top t m many (now (work .entry)) (now (work .exit)) ⌝ }
+{
+    let mut e = z;
+    while e < d {
+        let column = combine(columns, weights, top, e);
+        scatter(column, t * m + places[e], m, many, work);
+        e += 1;
+    }
+}
+
 // One row of the blocks from t on, `many` of them: the coefficients from degree d up are known, and
 // those of degrees z to d - 1 are found and written to their places. Each is the sum of the d parties'
 // bytes and of the known coefficients, times their weights.
@@ -139,12 +166,7 @@ fn decode_batch(
     let m = sizes.block;
     known(work, places, d, top, t, m, columns);
     load_parties(sizes, prefixes, q + t, many, used, columns);
-    let mut e = z;
-    while e < d {
-        let column = combine(columns, weights, top, e);
-        scatter(column, t * m + places[e], m, many, work);
-        e += 1;
-    }
+    solve_batch(columns, weights, places, z, d, top, t, m, many, work);
 }
 
 // One row of all blocks. The buffer of columns is made once: to clear it for each batch would take a

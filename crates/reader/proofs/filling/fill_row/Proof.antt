@@ -1,12 +1,12 @@
 -- `reader::filling::fill_row` meets its contract. The invariant: the values in the blocks before t are written. The measure is what is left of the
 -- blocks.
 -- Assumes nothing.
-use mathlib.Core.Path.{_≡_, refl, sym, ap, _∙_, subst}
+use mathlib.Core.Path.{_≡_, refl, sym, _∙_, subst}
 use mathlib.Core.List.{List}
 use Prim.Native.Nat.{ℕ, _+_, _-_, _*_, _≤_, _<_, zero-le}
 use native.Mathlib.Nat.{mul-le-mul}
 use native.Mathlib.Omega.{arith}
-use lib.ListN.{length, getD, length-replicate}
+use lib.ListN.{length, length-replicate}
 use borrow.Author.Needs.{needs}
 use Rattle.lists.proofs.Parts.{part-length}
 use Rattle.gf256.specs.Lanes.{lanes}
@@ -15,17 +15,17 @@ use Rattle.columns.proofs.Laws.{batch-fits}
 use Rattle.scheme.specs.Limits.{maxBlock, maxBlocks}
 use Rattle.reader.specs.Decoding.{readBy}
 use Rattle.reader.specs.Filling.{FillsRow, RowFilled}
-use Rattle.reader.proofs.RowFilling.{value-step, filled-none, filled-more, copied-at, copied-length, weighted-length}
+use Rattle.reader.proofs.RowFilling.{value-step, sums-at, lent-length, filled-none, filled-more}
 use Rattle.reader.proofs.filling.fill_row.Statement.{statement}
 use Rattle.reader.proofs.filling.fill_row.Tie as tie
 
 abbrev Inv-loop : tie.InvT-loop
-Inv-loop sizes prefixes chosen places top q work out₀ d m blocks columns₀ t₀ out columns t =
+Inv-loop sizes prefixes weights places top q work out₀ d m blocks columns₀ first t₀ out columns t =
     (t ≤ blocks) × (length out ≡ length out₀) × (length columns ≡ side * lanes)
-    × FillsRow sizes top q places chosen (readBy sizes prefixes) work t out₀ out
+    × FillsRow sizes top q places weights (readBy sizes prefixes) work t out₀ out
 
 abbrev μ-loop : tie.MeasureT-loop
-μ-loop sizes prefixes chosen places top q work out₀ d m blocks columns₀ t₀ out columns t = blocks - t
+μ-loop sizes prefixes weights places top q work out₀ d m blocks columns₀ first t₀ out columns t = blocks - t
 
 abbrev start : tie.After-slice-known Inv-loop μ-loop → tie.Start Inv-loop μ-loop
 start c = c .before .before .before
@@ -59,18 +59,17 @@ module _ (c : tie.After-batch-of Inv-loop μ-loop) where
 abbrev to-known : tie.After-load-parties Inv-loop μ-loop → tie.After-known Inv-loop μ-loop
 to-known c = c .before .before .before .before
 
-abbrev to-batch : tie.After-combine-by Inv-loop μ-loop → tie.After-batch-of Inv-loop μ-loop
-to-batch c = to-known (c .before .before .before) .before .before
+abbrev to-batch : tie.After-load-parties Inv-loop μ-loop → tie.After-batch-of Inv-loop μ-loop
+to-batch c = to-known c .before .before
 
--- there is a value for each of its blocks
-enough : (c : tie.After-combine-by Inv-loop μ-loop) → length (c .combine-by .result) ≡ lanes
-enough c = ap length (c .combine-by .ensures) ∙ weighted-length _ _ _
+abbrev solved : tie.After-slice-known2 Inv-loop μ-loop → tie.After-solve-batch Inv-loop μ-loop
+solved c = c .before .before
 
 pub fill-row-spec : {M : Type 1} → statement M
 fill-row-spec =
     tie.close
     (tie.spec Inv-loop μ-loop
-    (λ c. (zero-le, refl, length-replicate {A = ℕ} (side * lanes) 0, λ B points weights x W C R H. filled-none x (start c .args .q) (R .row) (start c .args .out .now)))
+    (λ c. (zero-le, refl, length-replicate {A = ℕ} (side * lanes) 0, λ B points chosen weights x W C T R H. filled-none x (start c .args .q) (R .row) (start c .args .out .now)))
     (λ c. search needs)
     (λ c κs. search needs)
     (λ c. sym (c .before .before .before .loop .inv .2))
@@ -93,49 +92,53 @@ fill-row-spec =
     let s = st b in
     let load : s .args .sizes .d * many b ≤ side * lanes = mul-le-mul (s .pre .0 .0 .d-high) (batch b .0) in
     ((s .pre .0 .0, k .known .ensures .long), (batch b .0, omega (arith, within b, s .pre .0 .1 .inside), omega arith)))
+    (λ c.
+    let b = to-batch (c .before) in
+    omega (arith, within b, st b .pre .1))
+    (λ c.
+    let b = to-batch (c .before) in
+    omega (arith, within b, st b .pre .1))
     (λ c. sym (c .before .before .load-parties .ensures .1 .long))
-    (λ c κs.
-    let g = c .before .before in
-    (g .load-parties .ensures .1 .long, omega (arith, st (to-known g .before .before) .pre .0 .1 .top-high)))
-    (λ c.
-    let b = to-batch c in
-    omega (arith, within b, st b .pre .1))
-    (λ c.
-    let b = to-batch c in
-    omega (arith, within b, st b .pre .1))
-    (λ c. sym (enough (c .before)))
     (λ c. search needs)
     (λ c. search needs)
-    (λ c. omega (arith, room (to-batch (c .before))))
+    (λ c. omega (arith, room (to-batch (c .before .before .before))))
     (λ c κs.
-    let v = c .before .before in
-    let b = to-batch v in
-    omega (arith, part-length _ (many b) (l b .loop .out) (room b), enough v, batch b .0))
+    let g = c .before .before .before .before in
+    let b = to-batch g in (
+      (g .load-parties .ensures .1 .long, omega arith, omega arith, st b .pre .0 .1 .top-high),
+      (
+        batch b .0,
+        omega arith,
+        omega arith,
+        (λ e a h.
+            let is : e ≡ 0 = omega arith in
+            rw is (omega arith)),
+        omega (arith, part-length _ (many b) (l b .loop .out) (room b)),
+      ),
+    ))
     (λ c.
-    let b = to-batch (c .before .before .before .before .before) in
+    let b = to-batch (solved c .before .before .before .before .before) in
     omega (arith, within b, st b .pre .0 .0 .blocks-high))
     (λ c.
-    let b = to-batch (c .before .before .before .before .before) in
+    let b = to-batch (solved c .before .before .before .before .before) in
     let more : 0 < many b = batch b .2 (omega (arith, b .before .loop-test .taken)) in
     omega (arith, b .before .loop-test .taken))
     (λ c.
-    let f = c .before .before in
-    let v = f .before .before .before in
-    let g = v .before .before .before in
-    let b = to-batch v in
+    let f = solved c in
+    let g = f .before .before .before .before .before in
+    let b = to-batch g in
     let k = l b .loop in
     let s = st b in
-    let y : List ℕ = f .copy .last .1 .0 in
-    let long : length y ≡ many b = f .copy .kept .1 .0 ∙ part-length _ (many b) (k .out) (room b) in (
+    let y : List ℕ = f .solve-batch .last .1 .1 .1 .1 .1 .1 .1 .1 .1 .0 in
+    let long : length y ≡ many b = f .solve-batch .kept .1 .1 .1 .1 .1 .1 .1 .1 .1 .0 ∙ part-length _ (many b) (k .out) (room b) in (
       within b,
-      copied-length _ (many b) (k .out) y (room b) long ∙ k .inv .1,
+      lent-length _ (many b) (k .out) y (room b) long ∙ k .inv .1,
       g .load-parties .ensures .1 .long,
-      λ B points weights x W C R H.
-          filled-more y (k .inv .3 B points weights x W C R H) (omega (arith, within b, s .pre .1 .0)) long
+      λ B points chosen weights x W C T R H.
+          filled-more y (k .inv .3 B points chosen weights x W C T R H) (omega (arith, within b, s .pre .1 .0)) long
           (λ i h.
-          copied-at _ (many b) (k .out) y (room b) (v .combine-by .result) (f .copy .ensures) i h
-          ∙ ap (λ (r : List ℕ). getD r i 0) (v .combine-by .ensures)
-          ∙ value-step x (s .pre .0 .0) (s .pre .0 .1) (batch b .0) (within b) (to-known g .known .ensures) (g .load-parties .ensures .1) W C R
+          sums-at _ (s .args .weights .now) _ (s .args .top) (many b) _ y refl (f .solve-batch .ensures) i h
+          ∙ value-step (s .args .weights .now) x (s .pre .0 .0) (s .pre .0 .1) (batch b .0) (within b) (to-known g .known .ensures) (g .load-parties .ensures .1) W C T R
           (λ u e low high. H u e zero-le (omega (arith, within b))) i h),
     ))
     (λ c. c .before .loop .inv .1)
@@ -143,4 +146,4 @@ fill-row-spec =
     let k = c .before .loop in
     let a = start (c .before .before) .args in
     let whole : k .t ≡ a .sizes .blocks = omega (arith, k .inv .0, c .loop-test .left) in
-    λ B points weights x W C R H. subst (λ (n : ℕ). RowFilled x (a .q) n (R .row) (a .out .now) (k .out)) whole (k .inv .3 B points weights x W C R H)))
+    λ B points chosen weights x W C T R H. subst (λ (n : ℕ). RowFilled x (a .q) n (R .row) (a .out .now) (k .out)) whole (k .inv .3 B points chosen weights x W C T R H)))

@@ -21,11 +21,11 @@ use Rattle.reader.proofs.filling.fill_share.Statement.{statement}
 use Rattle.reader.proofs.filling.fill_share.Tie as tie
 
 abbrev Inv-loop : tie.InvT-loop
-Inv-loop s counts d skip blocks chosen prefixes work out₀ rows sizes j₀ out j =
+Inv-loop s counts d skip blocks chosen prefixes work out₀ rows sizes weights j₀ out j =
     (j ≤ rows) × (length out ≡ length out₀) × FillsRows s counts d blocks chosen (readBy sizes prefixes) work j out
 
 abbrev μ-loop : tie.MeasureT-loop
-μ-loop s counts d skip blocks chosen prefixes work out₀ rows sizes j₀ out j = rows - j
+μ-loop s counts d skip blocks chosen prefixes work out₀ rows sizes weights j₀ out j = rows - j
 
 abbrev start : tie.After-rows-of-count Inv-loop μ-loop → tie.Start Inv-loop μ-loop
 start c = c .before .before .before .before .before .before
@@ -41,7 +41,7 @@ read c = let a = start c .args in withoutPiece (c .rows-of-count .result * a .bl
 -- the row that is next
 module _ (c : tie.In-loop Inv-loop μ-loop) where
   abbrev g : tie.After-rows-of-count Inv-loop μ-loop
-  g = c .before .before
+  g = c .before .before .before
 
   abbrev st : tie.Start Inv-loop μ-loop
   st = start g
@@ -86,16 +86,17 @@ fill-share-spec =
     (λ c. search needs)
     (λ c κs. search needs)
     (λ c. omega (arith, prefix-few (start c .pre .0 .0) (c .rows-of-count .result) (c .rows-of-count .ensures)))
+    (λ c κs. search needs)
     (λ c.
-    let a = start c .args in
-    (zero-le, refl, rows-none (a .s) (a .counts .now) (a .d) (a .blocks) (a .chosen .now) (read c) (a .work .now) (a .out .now)))
+    let a = start (c .before) .args in
+    (zero-le, refl, rows-none (a .s) (a .counts .now) (a .d) (a .blocks) (a .chosen .now) (read (c .before)) (a .work .now) (a .out .now)))
     (λ c. search needs)
     (λ c κs. search needs)
     (λ c.
     let k = i (c .before) in
     omega (arith, inside k, short (st k)))
     (λ c κs.
-    let o = c .before .before .before in
+    let o = c .before .before .before .before in
     let k = i o in
     let s = st k in
     let l = k .before .loop in (
@@ -103,29 +104,29 @@ fill-share-spec =
       (omega (arith, inside k, l .inv .1, s .pre .1), omega (arith, l .inv .1, s .pre .1, short s)),
     ))
     (λ c.
-    let k = i (c .before .before .before .before .before .before) in
+    let k = i (c .before .before .before .before .before .before .before) in
     omega (arith, row k .inside, rows-small (row k .input .counted) (P k) (row k .P-is), row k .P-is))
     (λ c.
-    let k = i (c .before .before .before .before .before .before) in
+    let k = i (c .before .before .before .before .before .before .before) in
     omega (arith, k .loop-test .taken))
     (λ c.
     let f = c .before .before in
-    let o = f .before .before .before .before in
+    let o = f .before .before .before .before .before in
     let k = i o in
     let a = st k .args in
     let l = k .before .loop in (
       omega (arith, k .loop-test .taken),
       f .fill-row .kept .1 .1 .1 .1 .1 .1 .1 .0 ∙ l .inv .1,
-      rows-more (row k) (origins o) (a .chosen .now) (a .work .now) (l .out) (f .fill-row .last .1 .1 .1 .1 .1 .1 .1 .0)
-          (rw (top-is o) at (f .fill-row .ensures)) (l .inv .2),
+      rows-more (row k) (origins o) (a .chosen .now) (k .before .before .in-first-column .result) (a .work .now) (l .out) (f .fill-row .last .1 .1 .1 .1 .1 .1 .1 .0)
+          (k .before .before .in-first-column .ensures) (rw (top-is o) at (f .fill-row .ensures)) (l .inv .2),
     ))
     (λ c. c .before .loop .inv .1)
     (λ c.
     let l = c .before .loop in
-    let s = start (c .before .before) in
+    let s = start (c .before .before .before) in
     let a = s .args in
     let whole : l .j ≡ a .s .rows = omega (arith, l .inv .0, c .loop-test .left) in
     λ B K points weights x W C X same.
-    rows-all (a .s) (a .counts .now) (a .d) (a .blocks) (a .chosen .now) (read (c .before .before)) (a .work .now) (l .out) (l .inv .1 ∙ s .pre .1)
+    rows-all (a .s) (a .counts .now) (a .d) (a .blocks) (a .chosen .now) (read (c .before .before .before)) (a .work .now) (l .out) (l .inv .1 ∙ s .pre .1)
     (rw whole at (l .inv .2))
-    B K points weights x W C (sent-at (a .skip) (a .prefixes .now) (c .before .before .rows-of-count .ensures) X) same))
+    B K points weights x W C (sent-at (a .skip) (a .prefixes .now) (c .before .before .before .rows-of-count .ensures) X) same))

@@ -1,0 +1,87 @@
+-- `reader::decoding::solve_batch` meets its contract. The invariant: the degrees from z to e - 1 are solved, for every B that has these sums. The measure
+-- is what is left of the degrees.
+-- Assumes nothing.
+use mathlib.Core.Path.{_≡_, refl, ap, _∙_, subst}
+use mathlib.Core.List.{List}
+use Prim.Native.Nat.{ℕ, _+_, _-_, _*_, _≤_, _<_}
+use native.Mathlib.Nat.{le-refl, mul-le-mul}
+use native.Mathlib.Omega.{arith}
+use lib.ListN.{length, getD}
+use Rattle.lists.proofs.Joined.{row-room, place-on}
+use Rattle.scheme.specs.Limits.{maxBlock, maxBlocks}
+use Rattle.reader.specs.Decoding.{combined, Solved}
+use Rattle.reader.proofs.Writes.{solved-none, solved-degree}
+use Rattle.reader.proofs.decoding.solve_batch.Statement.{statement}
+use Rattle.reader.proofs.decoding.solve_batch.Tie as tie
+
+abbrev Inv-loop : tie.InvT-loop
+Inv-loop columns weights places z d top t m many work₀ e₀ work e =
+    (z ≤ e) × (e ≤ d) × (length work ≡ length work₀)
+    × ((B : List ℕ) → ((f k : ℕ) → z ≤ f → f < d → k < many → getD (combined columns weights f top) k 0 ≡ getD B (t * m + getD places f 0 + k * m) 0)
+    → Solved t (t + many) m z e places B work₀ work)
+
+abbrev μ-loop : tie.MeasureT-loop
+μ-loop columns weights places z d top t m many work₀ e₀ work e = d - e
+
+-- the degree that is next
+module _ (c : tie.In-loop Inv-loop μ-loop) where
+  abbrev st : tie.Start Inv-loop μ-loop
+  st = c .before .before .before .before
+
+  abbrev place : ℕ
+  place = getD (st .args .places .now) (c .before .loop .e) 0
+
+  small : st .args .t * st .args .m ≤ maxBlocks * maxBlock
+  small = mul-le-mul (st .pre .1 .1) (st .pre .1 .2)
+
+  near : place < st .args .m
+  near = st .pre .1 .3 (c .before .loop .e) (c .before .loop .inv .0) (c .loop-test .taken)
+
+  -- the places of its column are in the buffer
+  room : (k : ℕ) → k < st .args .many → st .args .t * st .args .m + place + k * st .args .m < length (c .before .loop .work)
+  room k h =
+      omega (
+        arith,
+        place-on (st .args .t) k place (st .args .m),
+        row-room (st .args .t + k) (st .args .t + st .args .many) (st .args .m) (omega arith),
+        near,
+        st .pre .1 .4,
+        c .before .loop .inv .2,
+      )
+
+pub solve-batch-spec : {M : Type 1} → statement M
+solve-batch-spec =
+    tie.close
+    (tie.spec Inv-loop μ-loop
+    (λ c. (le-refl _, c .before .before .pre .0 .1, refl, λ B h. solved-none _ _ _ _ _ B _))
+    (λ c κs. (st c .pre .0 .0, st c .pre .0 .3, omega (arith, c .loop-test .taken, st c .pre .0 .2)))
+    (λ c. omega (arith, small (c .before)))
+    (λ c. omega (arith, small (c .before)))
+    (λ c. omega (arith, c .before .loop-test .taken, st (c .before) .pre .0 .2))
+    (λ c. omega (arith, small (c .before .before), near (c .before .before), st (c .before .before) .pre .1 .2))
+    (λ c κs.
+    let i = c .before .before .before in
+    (st i .pre .1 .0, omega (arith, small i, near i, st i .pre .1 .2), room i))
+    (λ c.
+    let i = c .before .before .before .before .before .before in
+    omega (arith, i .loop-test .taken, st i .pre .0 .2))
+    (λ c. omega (arith, c .before .before .before .before .before .before .loop-test .taken))
+    (λ c.
+    let a = c .before .before in
+    let w = a .before .before .before in
+    let i = w .before in
+    let l = i .before .loop in (
+      omega (arith, l .inv .0),
+      omega (arith, i .loop-test .taken),
+      a .scatter .kept .1 .1 .1 .1 .0 ∙ l .inv .2,
+      λ B h.
+          solved-degree (l .inv .3 B h)
+          (a .scatter .ensures B
+          (λ k hk. ap (λ (r : List ℕ). getD r k 0) (w .combine .ensures) ∙ h (l .e) k (l .inv .0) (i .loop-test .taken) hk)),
+    ))
+    (λ c. c .before .loop .inv .2)
+    (λ c.
+    let l = c .before .loop in
+    let a = c .before .before .before .before .args in
+    let whole : l .e ≡ a .d = omega (arith, l .inv .1, c .loop-test .left) in
+    λ B h. subst (λ (x : ℕ). Solved (a .t) (a .t + a .many) (a .m) (a .z) x (a .places .now) B (a .work .now) (l .work)) whole (l .inv .3 B h)))
