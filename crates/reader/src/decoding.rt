@@ -134,7 +134,8 @@ pub(crate) fn solve_batch(
 {
     let mut e = z;
     while e < d {
-        let column = combine(columns, weights, top, e);
+        // With an end that the compiler knows it makes no test of the columns' number for each of them.
+        let column = combine(&columns[..FLAT], weights, top, e);
         scatter(column, t * m + places[e], m, many, work);
         e += 1;
     }
