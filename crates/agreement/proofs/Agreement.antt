@@ -31,7 +31,7 @@ use Rattle.staircase.specs.Opening.{openedBlock, openedKeys}
 use Rattle.staircase.specs.Exactness.{openedString}
 use Rattle.staircase.proofs.Exactness.{staircase-exact}
 use Rattle.staircase.proofs.WholeBlocks.{keys-number}
-use Rattle.agreement.specs.Agreement.{shareIn, GiveAll, enough, firstParties, firstShares, foundBlocks, foundKeys, rebuilt, agrees, Lent, Agreement, AgreementIs}
+use Rattle.agreement.specs.Agreement.{shareIn, GiveAll, Agree, enough, firstParties, firstShares, foundBlocks, foundKeys, rebuilt, agrees, Lent, Agreement, AgreementIs, EnoughAgree}
 use Rattle.agreement.proofs.Sources.{all-rows, keys-same}
 
 -- the keys of N blocks, with the factors in document 01's order
@@ -172,17 +172,36 @@ module _ (p : Parameters) (parties : List ℕ) (N : ℕ) (shares : List ℕ) (L 
       let same = differing-none shares (joined (length parties) f) (L .bytes .0 ∙ sym (length-joined (length parties) (rows p * N) f long)) (eqb-true _ 0 e) in
       sym (piece-joined (length parties) (rows p * N) f long a h) ∙ ap (piece (rows p * N) a) (sym same)
 
+  -- the first of them, as many as are enough, have what is rebuilt
+  pub first-given : (a : ℕ) → a < enough p → rebuilt p parties N shares (getD parties a 0) ≡ piece (rows p * N) a shares
+  unfolding rebuilt staircase
+  first-given a h =
+      let found : List ℕ = foundBlocks p parties N shares in
+      let keys : List ℕ = foundKeys p parties N shares in
+      ap (shareIn p N found keys) (sym (getD-take (enough p) parties a 0 h))
+      ∙ sym (all-rows (staircase p) N found keys (getD core a 0))
+      ∙ found-gives a (rw core-long h)
+      ∙ piece-take (rows p * N) a (enough p) shares h room
+
+  found-agree : GiveAll p parties N shares (foundBlocks p parties N shares) (foundKeys p parties N shares) → Agree p parties N shares
+  found-agree G =
+      record {
+        blocks = foundBlocks p parties N shares;
+        keys = foundKeys p parties N shares;
+        blocks-are = found-bytes;
+        keys-are = rw (key-number p N) at found-keys-bytes;
+        give = G;
+      }
+
+  pub only-enough : length parties ≡ enough p → Agree p parties N shares
+  unfolding rebuilt
+  only-enough e = found-agree (λ a h. first-given a (rw e at h))
+
   pub agreement-of : Agreement p parties N shares
   agreement-of =
       record {
         tested = λ G. gives-tested (G .blocks) (G .keys) (G .blocks-are) (G .keys-are) (G .give);
-        agreed = λ e. record {
-          blocks = foundBlocks p parties N shares;
-          keys = foundKeys p parties N shares;
-          blocks-are = found-bytes;
-          keys-are = rw (key-number p N) at found-keys-bytes;
-          give = tested-gives e;
-        };
+        agreed = λ e. found-agree (tested-gives e);
         blocks-unique = blocks-found;
         keys-unique = keys-found;
         share-rebuilt = rebuilt-is;
@@ -190,3 +209,6 @@ module _ (p : Parameters) (parties : List ℕ) (N : ℕ) (shares : List ℕ) (L 
 
 pub agreement : (p : Parameters) → AgreementIs p
 agreement p parties N shares L many = agreement-of p parties N shares L many
+
+pub enough-agree : (p : Parameters) → EnoughAgree p
+enough-agree p parties N shares L many = only-enough p parties N shares L (le-of-eq (sym many)) many

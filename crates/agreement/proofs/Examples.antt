@@ -26,7 +26,7 @@ use Rattle.staircase.specs.Exactness.{openedString}
 use Rattle.agreement.specs.Agreement.{foundBlocks, foundKeys, rebuilt, agrees, named}
 
 -- four parties of which two are enough, so that four can name one
-abbrev four : Parameters
+abbrev pub four : Parameters
 four = parameters 4 2 1 (3 ∷ 2 ∷ [])
 
 -- the same with one row a block: sharing in its plainest form

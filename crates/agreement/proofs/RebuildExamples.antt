@@ -18,18 +18,15 @@ use Rattle.scheme.specs.Readers.{rises, within, readersRefused}
 use Rattle.scheme.specs.Padding.{paddedCount, blocksHeld}
 use Rattle.family.specs.Family.{shareOfBlocks}
 use Rattle.family.specs.Exactness.{readings, openedBlocks}
-use Rattle.staircase.specs.Parameters.{Parameters, parameters, schemeA, point}
+use Rattle.staircase.specs.Parameters.{parameters, schemeA, point}
 use Rattle.staircase.specs.Coefficients.{groupOf, countOf, originIn, origin}
 use Rattle.staircase.specs.Rows.{rowOf, keyed, copied, withGroups, rowsOf}
 use Rattle.staircase.specs.Shares.{staircase}
 use Rattle.staircase.specs.Opening.{upperPart, lowerPart, placed, openedFrom, openedBlock, openedLower, openedKeys}
 use Rattle.staircase.specs.Exactness.{openedString}
 use Rattle.agreement.specs.Agreement.{foundBlocks, foundKeys, rebuilt, agrees, named}
-use Rattle.agreement.specs.Rebuild.{disagreeing, blocksLent, wantedRefused, heldRefused, lentRefusal, rebuildAnswer, rebuildOutput}
-
--- of four parties two are enough, so four can name one
-abbrev four : Parameters
-four = parameters 4 2 1 (3 ∷ 2 ∷ [])
+use Rattle.agreement.specs.Rebuild.{blocksLent, wantedRefused, heldRefused, lentRefusal, rebuildAnswer, rebuildOutput}
+use Rattle.agreement.proofs.Examples.{four}
 
 pub rebuild-examples :
     -- the scheme before 7; both of 7 before 17; 17 before 9; both of 9 before 10
@@ -57,8 +54,8 @@ pub rebuild-examples :
     × (rebuildAnswer schemeA (1 ∷ 2 ∷ 3 ∷ []) (11 ∷ 3 ∷ 31 ∷ 10 ∷ 29 ∷ 13 ∷ []) 2 (0 ∷ 0 ∷ []) 2 ≡ accepted (2 ∷ []))
     -- 10 before 18; 18 with one more than are enough, which names nobody, and with two more, where the output stays
     × (rebuildAnswer schemeA (1 ∷ 2 ∷ 3 ∷ []) (11 ∷ 2 ∷ 31 ∷ 10 ∷ 29 ∷ 13 ∷ []) 2 [] 3 ≡ refused 10)
-    × (rebuildAnswer schemeA (1 ∷ 2 ∷ 3 ∷ []) (11 ∷ 2 ∷ 31 ∷ 10 ∷ 29 ∷ 13 ∷ []) 2 [] 2 ≡ disagreeing 0)
-    × (rebuildAnswer four (1 ∷ 2 ∷ 3 ∷ 4 ∷ []) (11 ∷ 2 ∷ 31 ∷ 10 ∷ 29 ∷ 13 ∷ 109 ∷ 24 ∷ []) 3 [] 2 ≡ disagreeing 1)
+    × (rebuildAnswer schemeA (1 ∷ 2 ∷ 3 ∷ []) (11 ∷ 2 ∷ 31 ∷ 10 ∷ 29 ∷ 13 ∷ []) 2 [] 2 ≡ record { number = 18; values = 0 ∷ [] })
+    × (rebuildAnswer four (1 ∷ 2 ∷ 3 ∷ 4 ∷ []) (11 ∷ 2 ∷ 31 ∷ 10 ∷ 29 ∷ 13 ∷ 109 ∷ 24 ∷ []) 3 [] 2 ≡ record { number = 18; values = 1 ∷ [] })
     × (rebuildOutput four (1 ∷ 2 ∷ 3 ∷ 4 ∷ []) (11 ∷ 2 ∷ 31 ∷ 10 ∷ 29 ∷ 13 ∷ 109 ∷ 24 ∷ []) 3 0 (7 ∷ 8 ∷ []) ≡ 7 ∷ 8 ∷ [])
 unfolding _⊕_ _⊗_ byte.product reduce cut squaresProduct _⊘_ next eval plus scale linear above vanishing through fitted divides firstFrom commonMultiple blockLength falls partiesRefused thresholdsRefused countsRefused blockRefused firstOf refusal rowsOfCount rowsOfBlock rises within readersRefused paddedCount blocksHeld tabulate joined piece pieces flat differing shareOfBlocks readings openedBlocks point rowOf keyed copied withGroups rowsOf staircase groupOf countOf originIn origin upperPart lowerPart placed openedFrom openedBlock openedLower openedKeys openedString foundBlocks foundKeys rebuilt without withoutPiece agrees named blocksLent wantedRefused heldRefused lentRefusal rebuildAnswer rebuildOutput
 rebuild-examples =

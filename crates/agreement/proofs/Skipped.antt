@@ -8,9 +8,7 @@ use mathlib.Core.List.{List}
 use Prim.Native.Nat.{ℕ, _*_, _≤_, _<_}
 use native.Mathlib.Nat.{mul-le-mul-right}
 use native.Mathlib.Omega.{arith}
-use lib.ListN.{length, getD, take}
-use lib.Seq.{getD-take}
-use Rattle.lists.proofs.Piece.{piece-take}
+use lib.ListN.{length, getD}
 use Rattle.lists.specs.Table.{piece}
 use Rattle.lists.specs.Without.{without, withoutPiece, skipped}
 use Rattle.lists.specs.Differing.{differing}
@@ -19,10 +17,9 @@ use Rattle.lists.proofs.Without.{length-without}
 use Rattle.lists.proofs.Differing.{differing-self}
 use Rattle.lists.proofs.Skipped.{skipped-before, skipped-other, skipped-back, unskipped, getD-without, without-far, piece-without, without-past, left-inside}
 use Rattle.staircase.specs.Parameters.{Parameters, rows}
-use Rattle.staircase.specs.Shares.{staircase}
 use Rattle.agreement.specs.Agreement.{shareIn, GiveAll, enough, foundBlocks, foundKeys, rebuilt, agrees, Lent}
-use Rattle.agreement.proofs.Sources.{all-rows}
-use Rattle.agreement.proofs.Agreement.{room, core-long, found-gives, found-bytes, found-keys-bytes, key-number, tested-gives, gives-tested}
+use Rattle.agreement.proofs.Agreement as agreement
+use Rattle.agreement.proofs.Agreement.{found-bytes, found-keys-bytes, key-number, tested-gives, gives-tested}
 use Rattle.agreement.proofs.Named.{lent-without, but-of}
 
 module _ (p : Parameters) (parties : List ℕ) (N : ℕ) (shares : List ℕ) (L : Lent p parties N shares) (skip : ℕ) where
@@ -80,17 +77,12 @@ module _ (p : Parameters) (parties : List ℕ) (N : ℕ) (shares : List ℕ) (L 
   module _ (many : enough p ≤ length left) where
     -- the first of them, from which the blocks and keys are found, have what is rebuilt
     pub first-given : (a : ℕ) → a ≢ skip → unskipped skip a < enough p → rebuilt p left N leftShares (getD parties a 0) ≡ piece w a shares
-    unfolding rebuilt staircase
     first-given a n h =
         let back = skipped-back skip a n in
-        let found : List ℕ = foundBlocks p left N leftShares in
-        let keys : List ℕ = foundKeys p left N leftShares in
-        let who : getD (take (enough p) left) (unskipped skip a) 0 ≡ getD parties a 0
-        = getD-take (enough p) left (unskipped skip a) 0 h ∙ getD-without parties skip (unskipped skip a) ∙ ap (λ (x : ℕ). getD parties x 0) back in
-        ap (shareIn p N found keys) (sym who)
-        ∙ sym (all-rows (staircase p) N found keys (getD (take (enough p) left) (unskipped skip a) 0))
-        ∙ found-gives p left N leftShares lent-left many (unskipped skip a) (rw (core-long p left N leftShares lent-left many) h)
-        ∙ piece-take w (unskipped skip a) (enough p) leftShares h (room p left N leftShares lent-left many)
+        let who : getD left (unskipped skip a) 0 ≡ getD parties a 0 =
+        getD-without parties skip (unskipped skip a) ∙ ap (λ (x : ℕ). getD parties x 0) back in
+        ap (rebuilt p left N leftShares) (sym who)
+        ∙ agreement.first-given p left N leftShares lent-left many (unskipped skip a) h
         ∙ piece-left (unskipped skip a) (omega arith)
         ∙ ap (λ (x : ℕ). piece w x shares) back
 

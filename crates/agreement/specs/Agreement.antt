@@ -119,6 +119,10 @@ pub record Named (p : Parameters) (parties : List ℕ) (N : ℕ) (shares : List 
 abbrev pub AgreementIs : Parameters → Type 0
 AgreementIs p = (parties : List ℕ) (N : ℕ) (shares : List ℕ) → Lent p parties N shares → enough p ≤ length parties → Agreement p parties N shares
 
+-- exactly n − r whole shares always agree (`enough-agree` in proofs/Agreement.antt), whatever their bytes
+abbrev pub EnoughAgree : Parameters → Type 0
+EnoughAgree p = (parties : List ℕ) (N : ℕ) (shares : List ℕ) → Lent p parties N shares → length parties ≡ enough p → Agree p parties N shares
+
 -- of an accepted scheme (`names-one` in proofs/Named.antt)
 abbrev pub NamedIs : Parameters → Type 0
 NamedIs p =
