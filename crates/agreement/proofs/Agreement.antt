@@ -6,7 +6,7 @@ use mathlib.Core.List.{List, map}
 use Prim.Native.Nat.{ℕ, _-_, _*_, _≤_, _<_}
 use native.Mathlib.Nat.{le-of-eq, mul-le-mul-right}
 use native.Mathlib.Omega.{arith}
-use lib.ListN.{length, getD}
+use lib.ListN.{length, getD, take}
 use lib.Seq.{length-take-le, getD-take}
 use borrow.Author.Tests.{eqb-true, eq-eqb}
 use Rattle.lists.specs.Each.{Each, Distinct, Byte}
@@ -32,7 +32,7 @@ use Rattle.staircase.specs.Exactness.{openedString}
 use Rattle.staircase.proofs.Exactness.{staircase-exact}
 use Rattle.staircase.proofs.WholeBlocks.{keys-number}
 use Rattle.agreement.specs.Agreement.{shareIn, GiveAll, Agree, enough, firstParties, firstShares, foundBlocks, foundKeys, rebuilt, agrees, Lent, Agreement, AgreementIs, EnoughAgree}
-use Rattle.agreement.proofs.Sources.{all-rows, keys-same}
+use Rattle.agreement.proofs.Sources.{all-rows, keys-same, same-blocks, same-keys}
 
 -- the keys of N blocks, with the factors in document 01's order
 pub key-number : (p : Parameters) (N : ℕ) → N * (rows p * p .z) ≡ keyBytes p N
@@ -82,6 +82,22 @@ module _ (p : Parameters) (A : AcceptedScheme p) (core : List ℕ) (many : lengt
     opened-gives =
         has-gives (staircase p) core (rows p) (le-of-eq refl) N shares openedAll openedAllKeys (bytes .0)
         (opened-has (staircase p) core (rows p) (rows p * p .z) opens opensKeys (le-of-eq refl) one-block N shares bytes)
+
+-- blocks and keys that give enough parties the same shares give every party the same
+module _ (p : Parameters) (A : AcceptedScheme p) (among : List ℕ) (many : enough p ≤ length among) (apart : Distinct among) (inside : Each (Party p) among)
+    (N : ℕ) (blocks blocks′ keys keys′ : List ℕ) (B : Bytes (N * block p) blocks) (B′ : Bytes (N * block p) blocks′) (K : Bytes (keyBytes p N) keys)
+    (K′ : Bytes (keyBytes p N) keys′) (same : Each (λ s. shareIn p N blocks keys s ≡ shareIn p N blocks′ keys′ s) among) where
+  pub same-share : (s : ℕ) → shareIn p N blocks keys s ≡ shareIn p N blocks′ keys′ s
+  unfolding staircase
+  same-share s =
+      let first : List ℕ = take (enough p) among in
+      let X = whole-exact p A first (length-take-le (enough p) among many) (distinct-take (enough p) among apart) (each-take (Party p) (enough p) among inside) N in
+      let W : Bytes (N * (rows p * p .z)) keys = rw (key-number p N) K in
+      let W′ : Bytes (N * (rows p * p .z)) keys′ = rw (key-number p N) K′ in
+      let alike = each-take (λ s. shareIn p N blocks keys s ≡ shareIn p N blocks′ keys′ s) (enough p) among same in
+      ap₂ (λ (b k : List ℕ). shareIn p N b k s)
+      (same-blocks (staircase p) N first _ X blocks blocks′ keys keys′ B B′ W W′ alike)
+      (same-keys (staircase p) N first _ X blocks blocks′ keys keys′ B B′ W W′ alike)
 
 -- enough parties, and more
 module _ (p : Parameters) (parties : List ℕ) (N : ℕ) (shares : List ℕ) (L : Lent p parties N shares) (many : enough p ≤ length parties) where

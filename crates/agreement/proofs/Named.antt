@@ -1,6 +1,6 @@
 -- Whom a disagreement names: at most one party is such that all others agree, and it is the one that the search finds.
 -- Assumes nothing.
-use mathlib.Core.Path.{_≡_, sym, ap, ap₂, _∙_}
+use mathlib.Core.Path.{_≡_, sym, ap, _∙_}
 use mathlib.Core.Bool.{true≢false}
 use mathlib.Core.Logic.{_≢_, ⊎-elim}
 use mathlib.Core.List.{List}
@@ -8,24 +8,20 @@ use Prim.Native.Nat.{ℕ, _+_, _-_, _*_, _≤_, _<_}
 use native.Mathlib.Nat.{suc-mul}
 use native.Mathlib.Decide.{ℕ-discrete}
 use native.Mathlib.Omega.{arith}
-use lib.ListN.{length, getD, take, List·getD-eq-default}
-use lib.Seq.{length-take-le}
+use lib.ListN.{length, getD, List·getD-eq-default}
 use borrow.Author.Tests.{le-ltb, lt-ltb}
 use Rattle.lists.specs.Each.{Each, Byte}
 use Rattle.lists.specs.Table.{piece}
 use Rattle.lists.specs.Without.{without, withoutPiece, skipped}
 use Rattle.lists.specs.FirstFrom.{firstFrom}
 use Rattle.lists.proofs.Tests.{lt-or-le}
-use Rattle.lists.proofs.Each.{each-take, each-of, distinct-take}
+use Rattle.lists.proofs.Each.{each-of}
 use Rattle.lists.proofs.FirstFrom.{first-found}
 use Rattle.lists.proofs.Without.{length-without, each-without, distinct-without}
 use Rattle.lists.proofs.Skipped.{skipped-before, skipped-after, skipped-other, skipped-below, skipped-back, unskipped, unskipped-below, getD-without, length-without-piece, piece-without, each-without-piece}
-use Rattle.family.specs.Message.{Bytes}
 use Rattle.staircase.specs.Parameters.{Parameters, Party, rows}
-use Rattle.staircase.specs.Shares.{staircase}
 use Rattle.agreement.specs.Agreement.{shareIn, GiveAll, Agree, AgreeWithout, enough, agreesWithout, named, Lent, Agreement, Named, NamedIs, NoneNamed}
-use Rattle.agreement.proofs.Sources.{same-blocks, same-keys}
-use Rattle.agreement.proofs.Agreement.{key-number, whole-exact, agreement}
+use Rattle.agreement.proofs.Agreement.{same-share, agreement}
 
 skipped-apart : (i j x : ℕ) → i < j → x ≢ i → skipped j x ≢ i
 skipped-apart i j x less n e =
@@ -80,9 +76,6 @@ module _ (p : Parameters) (parties : List ℕ) (N : ℕ) (shares : List ℕ) (L 
     abbrev both : List ℕ
     both = without i (without j parties)
 
-    abbrev core : List ℕ
-    core = take (enough p) both
-
     give : GiveBut i (G .blocks) (G .keys)
     give = but-of i (omega arith) (G .blocks) (G .keys) (G .give)
 
@@ -92,38 +85,29 @@ module _ (p : Parameters) (parties : List ℕ) (N : ℕ) (shares : List ℕ) (L 
     both-long : length both + 2 ≡ c
     both-long = omega (arith, fewer j hj, length-without (without j parties) i (omega (arith, fewer j hj)))
 
-    core-long : length core ≡ enough p
-    core-long = length-take-le (enough p) both (omega (arith, both-long))
-
     abbrev Same : ℕ → Type 0
     Same s = shareIn p N (G .blocks) (G .keys) s ≡ shareIn p N (H .blocks) (H .keys) s
 
-    same-at : Each (λ s. shareIn p N (G .blocks) (G .keys) s ≡ shareIn p N (H .blocks) (H .keys) s) core
+    same-at : Each (λ s. shareIn p N (G .blocks) (G .keys) s ≡ shareIn p N (H .blocks) (H .keys) s) both
     same-at =
-        each-take Same (enough p) both
-        (each-of Same both 0
+        each-of Same both 0
         (λ a h.
         let x-below : skipped i a + 1 < c = omega (arith, skipped-below i a (c - 1) (omega (arith, both-long)), both-long) in
         let q-below : skipped j (skipped i a) < c = skipped-below j (skipped i a) c x-below in
         rw (getD-without (without j parties) i a, getD-without parties j (skipped i a))
         (give (skipped j (skipped i a)) q-below (skipped-apart i j (skipped i a) less (skipped-other i a))
-        ∙ sym (give′ (skipped j (skipped i a)) q-below (skipped-other j (skipped i a))))))
+        ∙ sym (give′ (skipped j (skipped i a)) q-below (skipped-other j (skipped i a)))))
 
-    -- so blocks and keys are the same
-    same-share : (s : ℕ) → shareIn p N (G .blocks) (G .keys) s ≡ shareIn p N (H .blocks) (H .keys) s
-    unfolding staircase
-    same-share s =
-        let X = whole-exact p (L .scheme) core core-long (distinct-take (enough p) both (distinct-without (without j parties) i (distinct-without parties j (L .distinct))))
-        (each-take (Party p) (enough p) both (each-without (Party p) (without j parties) i (each-without (Party p) parties j (L .inside)))) N in
-        let K : Bytes (N * (rows p * p .z)) (G .keys) = rw (key-number p N) (G .keys-are) in
-        let K′ : Bytes (N * (rows p * p .z)) (H .keys) = rw (key-number p N) (H .keys-are) in
-        ap₂ (λ (b k : List ℕ). shareIn p N b k s)
-        (same-blocks (staircase p) N core _ X (G .blocks) (H .blocks) (G .keys) (H .keys) (G .blocks-are) (H .blocks-are) K K′ same-at)
-        (same-keys (staircase p) N core _ X (G .blocks) (H .blocks) (G .keys) (H .keys) (G .blocks-are) (H .blocks-are) K K′ same-at)
+    -- so both give every party the same
+    same-for : (s : ℕ) → shareIn p N (G .blocks) (G .keys) s ≡ shareIn p N (H .blocks) (H .keys) s
+    same-for =
+        same-share p (L .scheme) both (omega (arith, both-long)) (distinct-without (without j parties) i (distinct-without parties j (L .distinct)))
+        (each-without (Party p) (without j parties) i (each-without (Party p) parties j (L .inside)))
+        N (G .blocks) (H .blocks) (G .keys) (H .keys) (G .blocks-are) (H .blocks-are) (G .keys-are) (H .keys-are) same-at
 
     gives-at : (a : ℕ) → a < c → Dec (a ≡ i) → shareIn p N (G .blocks) (G .keys) (getD parties a 0) ≡ piece w a shares
     gives-at a h (no n) = give a h n
-    gives-at a h (yes e) = same-share (getD parties a 0) ∙ give′ a h (λ q. omega arith)
+    gives-at a h (yes e) = same-for (getD parties a 0) ∙ give′ a h (λ q. omega arith)
 
     pub all-agree : Agree p parties N shares
     all-agree =
