@@ -2,7 +2,7 @@
 -- reflects the ground at its place, the first number of the list is 0 exactly if no ground applies, and else that of the first ground that does.
 -- Assumes nothing.
 use mathlib.Core.Path.{_≡_, refl, sym, ap, _∙_}
-use mathlib.Core.Bool.{Bool, true, false, _||_, not, or-assoc, true≢false}
+use mathlib.Core.Bool.{Bool, true, false, _&&_, _||_, not, or-assoc, true≢false}
 use mathlib.Core.Logic.{_⊎_, inl, inr, ⊎-elim, _↔_, _≢_}
 use mathlib.Core.List.{List, [], _∷_, _++_}
 use Prim.Native.Nat.{ℕ, zero, suc, _+_, _≤_, _<_}
@@ -36,6 +36,10 @@ pub record Reflects (t : Bool) (A : Type 0) : Type 0 where
   pub holds : t ≡ true → A
   pub fails : t ≡ false → A → ⊥
 
+pub refuted : {t : Bool} {A : Type 0} → Reflects t A → (A → ⊥) → t ≡ false
+refuted {t = false} r n = refl
+refuted {t = true} r n = absurd (n (r .holds refl))
+
 pub above : {a b : ℕ} → Reflects (ltb a b) (a < b)
 above {a} {b} = record { holds = ltb-true a b; fails = λ e h. omega (arith, ltb-false a b e) }
 
@@ -68,6 +72,10 @@ not-rising n parties =
 pub either : {s t : Bool} {A B : Type 0} → Reflects s A → Reflects t B → Reflects (s || t) (A ⊎ B)
 either {s = true} r q = record { holds = λ e. inl (r .holds refl); fails = λ e h. true≢false e }
 either {s = false} r q = record { holds = λ e. inr (q .holds e); fails = λ e. ⊎-elim (r .fails refl) (q .fails e) }
+
+pub both : {s t : Bool} {A B : Type 0} → Reflects s A → Reflects t B → Reflects (s && t) (A × B)
+both {s = true} r q = record { holds = λ e. (r .holds refl, q .holds e); fails = λ e h. q .fails e (h .1) }
+both {s = false} r q = record { holds = λ e. absurd (true≢false (sym e)); fails = λ e h. r .fails refl (h .0) }
 
 -- ---- a list of numbers and the grounds for which they are given
 
@@ -107,6 +115,11 @@ first-once (g ∷ grounds) q k (inr n) (inr m) = first-once grounds q k (n .1) (
 pub none-first : (grounds : List Ground) (q : ℕ) → NoneApplies grounds → FirstApplies q grounds → ⊥
 none-first (g ∷ grounds) q n (inl a) = n .0 (a .0)
 none-first (g ∷ grounds) q n (inr f) = none-first grounds q (n .1) (f .1)
+
+-- nor is a number that no ground has
+pub first-other : (q : ℕ) (grounds : List Ground) → Each (λ g. eqb q (g .number) ≡ false) grounds → FirstApplies q grounds → ⊥
+first-other q (g ∷ grounds) n (inl a) = eqb-false q (g .number) (n .0) (a .1)
+first-other q (g ∷ grounds) n (inr f) = first-other q grounds (n .1) (f .1)
 
 -- both ways
 pub none-applies : {qs : List ℕ} {grounds : List Ground} → Tested qs grounds → (firstOf qs ≡ 0) ↔ NoneApplies grounds
