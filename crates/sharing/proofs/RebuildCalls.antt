@@ -2,16 +2,16 @@
 -- the blocks and keys of all shares give the wanted party, and whom one names that finds no such blocks and keys. And the words settle a call.
 -- Assumes nothing.
 use mathlib.Core.Path.{_≡_, refl, sym, ap, _∙_}
-use mathlib.Core.Bool.{Bool, true, false, cond, not, _&&_, true≢false}
-use mathlib.Core.Logic.{inl, inr, ⊎-elim, _≢_}
+use mathlib.Core.Bool.{Bool, true, false, cond, not, true≢false}
+use mathlib.Core.Logic.{inl, ⊎-elim, _≢_}
 use mathlib.Core.List.{List, [], _∷_, _++_}
-use Prim.Native.Nat.{ℕ, zero, suc, _+_, _*_, _/_, _≤_, _<_}
-use native.Mathlib.Nat.{mul-comm, mul-left-comm, mul-pos, mul-div-cancel}
+use Prim.Native.Nat.{ℕ, zero, suc, _+_, _-_, _*_, _/_, _≤_, _<_}
+use native.Mathlib.Nat.{le-trans, mul-comm, mul-left-comm, mul-pos, mul-div-cancel}
 use native.Mathlib.Decide.{ℕ-discrete}
 use native.Mathlib.Omega.{arith}
 use lib.Dec.{ltb, eqb}
 use lib.ListN.{length, getD}
-use borrow.Author.Tests.{ltb-true, ltb-false, eqb-true, eqb-false, not-false}
+use borrow.Author.Tests.{ltb-true, ltb-false, eqb-true, not-false}
 use Rattle.lists.specs.Each.{Each, Byte}
 use Rattle.lists.specs.Differing.{differing}
 use Rattle.lists.proofs.Differing.{differing-empty}
@@ -19,13 +19,14 @@ use Rattle.lists.proofs.Tests.{neither, either, lt-or-le, test-positive}
 use Rattle.lists.proofs.Each.{each-append}
 use Rattle.scheme.specs.Limits.{maxMessage}
 use Rattle.scheme.specs.Readers.{readersRefused, Rising}
-use Rattle.scheme.specs.Padding.{paddedCount, mostPadded, blocksHeld}
+use Rattle.scheme.specs.Padding.{mostPadded, blocksHeld}
 use Rattle.scheme.specs.Outcome.{Outcome, accepted, refused, numberIf, firstOf}
 use Rattle.scheme.specs.Check.{refusal}
 use Rattle.scheme.specs.Grounds.{Ground, ground, NoneApplies, FirstApplies}
-use Rattle.scheme.proofs.Laws.{accepted as scheme-facts, Reflects, Tested, end, line, line-then, above, other, not-rising, after-accepted, none-first, first-once, first-before, first-after, none-applies, first-applies, kept, first-none, first-if, readers-rise, parties-distinct, held-told, held-of}
-use Rattle.staircase.specs.Parameters.{Parameters, AcceptedScheme, Party, defaultParameters, block, rows, shareBytes}
-use Rattle.staircase.proofs.Sizes.{rows-some}
+use Rattle.scheme.proofs.Laws.{accepted as scheme-facts, block-count-least, Reflects, Tested, end, line, line-then, above, other, both, not-rising, after-accepted, none-first, first-once, first-other, first-before, first-after, none-applies, first-applies, kept, first-none, first-if, readers-rise, parties-distinct, padded-count-least, padded-count-of, padded-count-most, most-full, held-told, held-of}
+use Rattle.family.specs.Message.{Bytes}
+use Rattle.staircase.specs.Parameters.{Parameters, AcceptedScheme, Party, defaultParameters, block, rows, blocksOf, paddedBlocksOf, shareBytes}
+use Rattle.staircase.proofs.Sizes.{block-some, rows-some}
 use Rattle.agreement.specs.Agreement.{Agree, enough, rebuilt, agrees, named, Lent, Agreement}
 use Rattle.agreement.proofs.Laws.{agreement, names-one, names-none, rebuilt-long}
 use Rattle.reader.specs.declared.rebuilding.RebuildAnswer.{RebuildAnswer}
@@ -50,21 +51,24 @@ no-party p wanted =
           h (test-positive wanted (passed .0), ltb-false (p .n) wanted (passed .1));
     }
 
-both-hold : {s t : Bool} {A B : Type 0} → Reflects s A → Reflects t B → Reflects (s && t) (A × B)
-both-hold {s = true} r q = record { holds = λ e. (r .holds refl, q .holds e); fails = λ e h. q .fails e (h .1) }
-both-hold {s = false} r q = record { holds = λ e. absurd (true≢false (sym e)); fails = λ e h. r .fails refl (h .0) }
-
 pub wrong-copy : (held share : ℕ) → Reflects (heldRefused held share) ((held ≢ 0) × (held ≢ share))
 unfolding heldRefused
-wrong-copy held share = both-hold other other
+wrong-copy held share = both other other
+
+-- a message has no more blocks than a padded one
+pub blocks-few : (p : Parameters) → AcceptedScheme p → (message : ℕ) → message ≤ maxMessage → blocksOf p message ≤ mostPadded (block p)
+blocks-few p A message short =
+    let padded-enough = padded-count-least (block p) message (block-some p A) .enough in
+    le-trans (block-count-least (block p) message (block-some p A) .fewest (paddedBlocksOf p message) (omega (arith, padded-enough)))
+    (padded-count-most (block p) message short (block-some p A))
 
 -- the blocks that the bytes of all shares tell, where each block has some
 module _ (p : Parameters) (parties shares : ℕ) where
   abbrev told : ℕ
   told = blocksLent p parties shares
 
-  told-most : told ≤ maxMessage / block p + 1
-  unfolding blocksLent paddedCount
+  told-most : told ≤ mostPadded (block p)
+  unfolding blocksLent
   told-most =
       ⊎-elim (λ (h : 0 < told). held-told (mostPadded (block p)) (parties * rows p) shares h .1) (λ (h : told ≤ 0). omega arith) (lt-or-le 0 told)
 
@@ -76,13 +80,27 @@ module _ (p : Parameters) (parties shares : ℕ) where
   told-of some N few is =
       ap (blocksHeld (mostPadded (block p)) (parties * rows p)) (is ∙ in-blocks N) ∙ held-of (mostPadded (block p)) (parties * rows p) N some few
 
-  not-whole : 0 < parties * rows p
-      → Reflects (not (eqb shares (parties * shareBytes p told))) ((N : ℕ) → N ≤ maxMessage / block p + 1 → shares ≢ parties * (N * rows p))
-  unfolding paddedCount
-  not-whole some =
+  -- no blocks are those of the empty message, and any others, up to the most, those of a padded message that fills all but the last of them
+  not-whole : AcceptedScheme p → 0 < parties * rows p → Reflects (not (eqb shares (parties * shareBytes p told))) (notWhole p parties shares .applies)
+  not-whole A some =
+      let bytes : ℕ → ℕ = λ N. parties * shareBytes p N in
       record {
-        holds = λ e N few is. other .holds e (is ∙ ap (λ (x : ℕ). parties * (x * rows p)) (sym (told-of some N few is)));
-        fails = λ e h. h told told-most (eqb-true shares (parties * shareBytes p told) (not-false (eqb shares (parties * shareBytes p told)) e));
+        holds = λ e message short.
+            let other-blocks : (N : ℕ) → N ≤ mostPadded (block p) → shares ≢ parties * shareBytes p N =
+            λ N few is. other .holds e (is ∙ ap bytes (sym (told-of some N few is))) in (
+              other-blocks (blocksOf p message) (blocks-few p A message short),
+              other-blocks (paddedBlocksOf p message) (padded-count-most (block p) message short (block-some p A)),
+            );
+        fails = λ e h.
+            let is : shares ≡ parties * shareBytes p told = eqb-true _ _ (not-false _ e) in
+            ⊎-elim
+            (λ (l : 0 < told).
+            h ((told - 1) * block p) (most-full (block p) told (block-some p A) told-most) .1
+            (is ∙ ap bytes (sym (padded-count-of (block p) told (block-some p A) l))))
+            (λ (l : told ≤ 0).
+            let none : told ≡ blocksOf p 0 = omega (arith, block-count-least (block p) 0 (block-some p A) .fewest 0 (omega arith)) in
+            h 0 (omega arith) .0 (is ∙ ap bytes none))
+            (lt-or-le 0 told);
       }
 
   quotient : 0 < parties * rows p → shares ≡ parties * shareBytes p told → told ≡ wholeBlocks p parties shares
@@ -91,15 +109,20 @@ module _ (p : Parameters) (parties shares : ℕ) where
 
 -- ---- the lines before 18
 
--- q is none of their numbers
-first-other : (q : ℕ) (grounds : List Ground) → Each (λ g. eqb q (g .number) ≡ false) grounds → FirstApplies q grounds → ⊥
-first-other q (g ∷ grounds) n (inl a) = eqb-false q (g .number) (n .0) (a .1)
-first-other q (g ∷ grounds) n (inr f) = first-other q grounds (n .1) (f .1)
-
 pub some-bytes : (p : Parameters) → AcceptedScheme p → (parties : ℕ) → enough p ≤ parties → 0 < parties * rows p
 some-bytes p A parties many =
     let room = scheme-facts (p .n) (p .r) (p .z) (p .counts) A .sizes .room in
     mul-pos (omega (arith, room)) (rows-some p A)
+
+pub rising-lent : (p : Parameters) → AcceptedScheme p → (parties : List ℕ) → Rising 0 (p .n) parties → (N : ℕ) (shares : List ℕ)
+    → Bytes (length parties * (rows p * N)) shares → Lent p parties N shares
+rising-lent p A parties rising N shares whole =
+    let right = parties-distinct (p .n) parties rising in
+    record { scheme = A; distinct = right .0; inside = right .1; bytes = whole }
+
+pub agree-tested : {p : Parameters} {parties : List ℕ} {N : ℕ} {shares : List ℕ} → Agreement p parties N shares
+    → Reflects (agrees p parties N shares) (Agree p parties N shares)
+agree-tested X = record { holds = X .agreed; fails = λ e G. true≢false (sym (X .tested G) ∙ e) }
 
 module _ (p : Parameters) (parties shares : List ℕ) (wanted held out : ℕ) where
   abbrev N : ℕ
@@ -144,7 +167,7 @@ module _ (p : Parameters) (parties shares : List ℕ) (wanted held out : ℕ) wh
       (line-then above
       (λ many.
       let some = some-bytes p A (length parties) (ltb-false (length parties) (enough p) many) in
-      line-then (not-whole p (length parties) (length shares) some)
+      line-then (not-whole p (length parties) (length shares) A some)
       (λ whole. last-lines (quotient p (length parties) (length shares) some (eqb-true _ _ (not-false _ whole))))))))
 
   not-eighteen : FirstApplies 18 lentLines → ⊥
@@ -187,15 +210,13 @@ module _ (p : Parameters) (parties shares : List ℕ) (wanted held out : ℕ) wh
 
   module _ (bytes : Each Byte shares) (P : Passed) where
     lent : Lent p parties N shares
-    lent =
-        let right = parties-distinct (p .n) parties (P .rising) in
-        record { scheme = P .good; distinct = right .0; inside = right .1; bytes = (P .whole, bytes) }
+    lent = rising-lent p (P .good) parties (P .rising) N shares (P .whole, bytes)
 
     decided : Agreement p parties N shares
     decided = agreement p parties N shares lent (P .many)
 
     disagree : agrees p parties N shares ≡ false → Agree p parties N shares → ⊥
-    disagree e G = true≢false (sym (decided .tested G) ∙ e)
+    disagree = agree-tested decided .fails
 
     no-line : firstOf lentNumbers ≡ 0 → agrees p parties N shares ≡ true → NoneApplies (lentLines ++ lastLine)
     no-line e t = each-append (λ (g : Ground). g .applies → ⊥) lentLines lastLine (none-applies lent-tested .0 e) ((λ h. h (decided .agreed t)), tt)

@@ -1,25 +1,25 @@
--- A share rebuilt from shares that were split, in both forms of message: it is the one that was split, and one wrong share is named.
+-- A share rebuilt from shares that were split, in both forms of message: it is the one that was split, one wrong share is named, and several
+-- are noticed as long as enough right ones are lent.
 -- Assumes nothing.
 use mathlib.Core.Path.{_≡_, refl, sym, ap, _∙_}
-use mathlib.Core.Bool.{Bool, true, false}
+use mathlib.Core.Bool.{true}
 use mathlib.Core.Logic.{⊎-elim, _≢_}
-use mathlib.Core.List.{List, [], _∷_}
-use Prim.Native.Nat.{ℕ, _+_, _*_, _≤_, _<_}
+use mathlib.Core.List.{List, [], _∷_, map}
+use Prim.Native.Nat.{ℕ, _*_, _≤_, _<_}
 use native.Mathlib.Nat.{le-trans, mul-comm}
 use native.Mathlib.Omega.{arith}
-use lib.ListN.{length, getD}
-use Rattle.lists.specs.Each.{Byte}
+use lib.ListN.{length, getD, length-map}
+use Rattle.lists.specs.Each.{Each, Distinct, Byte}
 use Rattle.lists.specs.Table.{joined, piece}
-use Rattle.lists.specs.Without.{without, withoutPiece}
+use Rattle.lists.specs.Without.{without}
 use Rattle.lists.specs.Differing.{differing}
-use Rattle.lists.proofs.Each.{each-getD, each-joined}
+use Rattle.lists.proofs.Each.{each-getD, each-imp, each-joined, each-mapped}
 use Rattle.lists.proofs.Joined.{length-joined, joined-same, piece-joined}
-use Rattle.lists.proofs.Without.{length-without}
-use Rattle.scheme.specs.Limits.{maxMessage}
+use Rattle.lists.proofs.Without.{length-without, without-each, each-without, distinct-without}
 use Rattle.scheme.specs.Readers.{Rising}
 use Rattle.scheme.specs.Padding.{mostPadded}
 use Rattle.scheme.specs.Outcome.{accepted}
-use Rattle.scheme.proofs.Laws.{default-accepted, block-count-least, Reflects, readers-pass, parties-distinct, done, pass, pass-within, pass-false, pass-same, numbered, padded-count-least, padded-count-most}
+use Rattle.scheme.proofs.Laws.{default-accepted, refuted, readers-pass, parties-distinct, done, pass, pass-within, pass-false, pass-same, numbered, padded-count-most}
 use Rattle.family.specs.Message.{Bytes, padded}
 use Rattle.family.specs.Padding.{marked}
 use Rattle.family.specs.Family.{sharesOfBlocks}
@@ -32,24 +32,19 @@ use Rattle.staircase.proofs.Construction.{share-bytes}
 use Rattle.staircase.proofs.Hidden.{part-is-share}
 use Rattle.staircase.proofs.Sizes.{block-some}
 use Rattle.agreement.specs.Agreement.{shareIn, GiveAll, Agree, enough, rebuilt, agrees, named, Lent, Agreement}
-use Rattle.agreement.proofs.Laws.{agreement, names-one, lent-left, to-all}
+use Rattle.agreement.proofs.Laws.{agreement, same-share, names-one, to-all}
 use Rattle.dealer.proofs.Laws.{none-applies, written, padded-none-applies, padded-written}
 use Rattle.agreement.specs.Rebuild.{disagreeing, blocksLent, lentRefusal, rebuildAnswer, rebuildOutput}
-use Rattle.sharing.specs.Rebuild.{OfSplit, OfSplitPadded, Asked, ComesBack, NamesTheLiar, RebuiltIsSplit, PaddedRebuiltIsSplit, LiarNamed, PaddedLiarNamed}
-use Rattle.sharing.proofs.RebuildCalls.{no-party, wrong-copy, told-of, some-bytes}
-
-refuted : {t : Bool} {A : Type 0} → Reflects t A → (A → ⊥) → t ≡ false
-refuted {t = false} r n = refl
-refuted {t = true} r n = absurd (n (r .holds refl))
+use Rattle.sharing.specs.Rebuild.{OfSplit, OfSplitPadded, Asked, ComesBack, NamesTheWrong, NoticesTheWrong, RebuiltIsSplit, PaddedRebuiltIsSplit, WrongNamed, PaddedWrongNamed, WrongNoticed, PaddedWrongNoticed}
+use Rattle.sharing.proofs.RebuildCalls.{no-party, wrong-copy, blocks-few, told-of, some-bytes, rising-lent, agree-tested}
+use Rattle.sharing.proofs.Places.{distinct-few, places-apart}
 
 -- ---- whole shares of N blocks that are lent
 
 module _ (p : Parameters) (A : AcceptedScheme p) (N : ℕ) (fits : N ≤ mostPadded (block p)) (parties : List ℕ) (rising : Rising 0 (p .n) parties)
     (many : enough p ≤ length parties) (shares : List ℕ) (whole : Bytes (length parties * (rows p * N)) shares) where
   lent : Lent p parties N shares
-  lent =
-      let right = parties-distinct (p .n) parties rising in
-      record { scheme = A; distinct = right .0; inside = right .1; bytes = whole }
+  lent = rising-lent p A parties rising N shares whole
 
   decided : Agreement p parties N shares
   decided = agreement p parties N shares lent many
@@ -83,14 +78,15 @@ module _ (p : Parameters) (A : AcceptedScheme p) (N : ℕ) (fits : N ≤ mostPad
     unfolding rebuildOutput
     output-rebuilt e = simp (passes, told, e)
 
-    -- and where they do not
-    answer-named : agrees p parties N shares ≡ false → rebuildAnswer p parties shares wanted held (length out) ≡ disagreeing (named p parties N shares)
-    unfolding rebuildAnswer
-    answer-named e = simp (passes, told, e)
-
-    output-named : agrees p parties N shares ≡ false → rebuildOutput p parties shares wanted (length held) out ≡ out
-    unfolding rebuildOutput
-    output-named e = simp (passes, told, e)
+  -- and where they do not
+  module _ (none : Agree p parties N shares → ⊥) where
+    disagreed : (wanted : ℕ) (held out : List ℕ) → Asked p N wanted held out
+        → (rebuildAnswer p parties shares wanted held (length out) ≡ disagreeing (named p parties N shares))
+        × (rebuildOutput p parties shares wanted (length held) out ≡ out)
+    unfolding rebuildAnswer rebuildOutput
+    disagreed wanted held out Q =
+        let e = refuted (agree-tested decided) none in
+        (simp (passes wanted held out Q, told, e), simp (passes wanted held out Q, told, e))
 
 -- ---- shares of N whole blocks under their keys
 
@@ -131,68 +127,63 @@ module _ (p : Parameters) (A : AcceptedScheme p) (N : ℕ) (fits : N ≤ mostPad
         output-rebuilt p A N fits parties rising many sent whole wanted held out Q agree ∙ share,
       )
 
-  -- all but one of the shares are those of the blocks and keys
-  module _ (parties : List ℕ) (rising : Rising 0 (p .n) parties) (many : enough p + 2 ≤ length parties) (shares : List ℕ)
-      (whole : Bytes (length parties * (rows p * N)) shares) (i : ℕ) (inside : i < length parties)
-      (wrong : piece (rows p * N) i shares ≢ partOf p N (getD parties i 0) output)
-      (right : (a : ℕ) → a < length parties → a ≢ i → piece (rows p * N) a shares ≡ partOf p N (getD parties a 0) output) where
-    enough-all : enough p ≤ length parties
-    enough-all = omega arith
+  -- one of the shares is not that of the blocks and keys, and those of enough parties are: no blocks and keys give all, since they would give every party
+  -- the same
+  module _ (parties : List ℕ) (rising : Rising 0 (p .n) parties) (shares : List ℕ) (i : ℕ) (inside : i < length parties)
+      (wrong : piece (rows p * N) i shares ≢ partOf p N (getD parties i 0) output) where
+    as-split : (G : Agree p parties N shares) (a : ℕ) → a < length parties → piece (rows p * N) a shares ≡ partOf p N (getD parties a 0) output
+        → shareIn p N (G .blocks) (G .keys) (getD parties a 0) ≡ shareIn p N blocks keys (getD parties a 0)
+    as-split G a h right = G .give a h ∙ right ∙ part-at (getD parties a 0) (party-at parties rising a h)
 
-    L : Lent p parties N shares
-    L = lent p A N fits parties rising enough-all shares whole
-
-    left : Agreement p (without i parties) N (withoutPiece size i shares)
-    left =
-        agreement p (without i parties) N (withoutPiece size i shares) (lent-left p parties N shares L i) (omega (arith, length-without parties i inside))
-
-    -- without it they agree
-    others : GiveAll p (without i parties) N (withoutPiece size i shares) blocks keys
-    others = to-all p parties N shares L i blocks keys (λ a h n. sym (right a h n ∙ part-at (getD parties a 0) (party-at parties rising a h)))
-
-    -- with it they do not: the others fix blocks and keys
-    not-all : Agree p parties N shares → ⊥
-    not-all G =
+    not-all : (among : List ℕ) → enough p ≤ length among → Distinct among → Each (Party p) among
+        → ((G : Agree p parties N shares) → Each (λ s. shareIn p N (G .blocks) (G .keys) s ≡ shareIn p N blocks keys s) among) → Agree p parties N shares → ⊥
+    not-all among many apart parties-all same G =
         let s : ℕ = getD parties i 0 in
-        let others-give : GiveAll p (without i parties) N (withoutPiece size i shares) (G .blocks) (G .keys) =
-        to-all p parties N shares L i (G .blocks) (G .keys) (λ a h _. G .give a h) in
         wrong
         (sym (G .give i inside)
-        ∙ sym (left .share-rebuilt (G .blocks) (G .keys) (G .blocks-are) (G .keys-are) others-give s)
-        ∙ left .share-rebuilt blocks keys B K others s
+        ∙ same-share p A among many apart parties-all N (G .blocks) blocks (G .keys) keys (G .blocks-are) B (G .keys-are) K (same G) s
         ∙ sym (part-at s (party-at parties rising i inside)))
 
-    named-is : named p parties N shares ≡ getD parties i 0
-    named-is =
-        names-one p parties N shares L many not-all .names (getD parties i 0)
-        record {
-          place = i;
-          inside = inside;
-          party-is = refl;
-          others = record { blocks = blocks; keys = keys; blocks-are = B; keys-are = K; give = others };
-        }
-
-    fails : (t : Bool) → agrees p parties N shares ≡ t → agrees p parties N shares ≡ false
-    fails false e = e
-    fails true e = absurd (not-all (decided p A N fits parties rising enough-all shares whole .agreed e))
-
-  names-the-liar : NamesTheLiar p N output
-  names-the-liar parties rising many shares whole i inside wrong right wanted held out Q =
+  names-the-wrong : NamesTheWrong p N output
+  names-the-wrong parties rising many shares whole i inside wrong right wanted held out Q =
       let enough-all : enough p ≤ length parties = omega arith in
-      let disagree = fails parties rising many shares whole i inside wrong right (agrees p parties N shares) refl in (
-        answer-named p A N fits parties rising enough-all shares whole wanted held out Q disagree
-            ∙ ap disagreeing (named-is parties rising many shares whole i inside wrong right),
-        output-named p A N fits parties rising enough-all shares whole wanted held out Q disagree,
-      )
+      let left : enough p ≤ length (without i parties) = omega (arith, length-without parties i inside) in
+      let L = rising-lent p A parties rising N shares whole in
+      let none =
+      not-all parties rising shares i inside wrong (without i parties) left (distinct-without parties i (L .distinct))
+      (each-without (Party p) parties i (L .inside))
+      (λ G.
+      without-each (λ s. shareIn p N (G .blocks) (G .keys) s ≡ shareIn p N blocks keys s) parties i 0
+      (λ a h n. as-split parties rising shares i inside wrong G a h (right a h n))) in
+      let others = to-all p parties N shares L i blocks keys (λ a h n. sym (right a h n ∙ part-at (getD parties a 0) (party-at parties rising a h))) in
+      let named-is = names-one p parties N shares L many none .names (getD parties i 0)
+      record {
+        place = i;
+        inside = inside;
+        party-is = refl;
+        others = record { blocks = blocks; keys = keys; blocks-are = B; keys-are = K; give = others };
+      } in
+      let said = disagreed p A N fits parties rising enough-all shares whole none wanted held out Q in
+      (said .0 ∙ ap disagreeing named-is, said .1)
+
+  notices-the-wrong : NoticesTheWrong p N output
+  notices-the-wrong parties rising shares whole right apart many given i inside wrong wanted held out Q =
+      let at : ℕ → ℕ = λ a. getD parties a 0 in
+      let Given : ℕ → Type 0 = λ a. (a < length parties) × (piece (rows p * N) a shares ≡ partOf p N (getD parties a 0) output) in
+      let below : Each (λ a. a < length parties) right = each-imp Given (λ a. a < length parties) (λ a h. h .0) right given in
+      let enough-all : enough p ≤ length parties = le-trans many (distinct-few (length parties) right apart below) in
+      let L = rising-lent p A parties rising N shares whole in
+      let none =
+      not-all parties rising shares i inside wrong (map at right) (rw length-map many) (places-apart parties (L .distinct) right apart below)
+      (each-mapped (Party p) at right (each-imp Given (λ a. Party p (at a)) (λ a h. party-at parties rising a (h .0)) right given))
+      (λ G.
+      each-mapped (λ s. shareIn p N (G .blocks) (G .keys) s ≡ shareIn p N blocks keys s) at right
+      (each-imp Given (λ a. shareIn p N (G .blocks) (G .keys) (at a) ≡ shareIn p N blocks keys (at a))
+      (λ a h. as-split parties rising shares i inside wrong G a (h .0) (h .1)) right given)) in
+      let said = disagreed p A N fits parties rising enough-all shares whole none wanted held out Q in
+      ((named p parties N shares, said .0), said .1)
 
 -- ---- what the splitters write is that, in both forms of message
-
--- a message has no more blocks than a padded one
-blocks-few : (p : Parameters) → AcceptedScheme p → (message : ℕ) → message ≤ maxMessage → blocksOf p message ≤ mostPadded (block p)
-blocks-few p A message short =
-    let padded-enough = padded-count-least (block p) message (block-some p A) .enough in
-    le-trans (block-count-least (block p) message (block-some p A) .fewest (paddedBlocksOf p message) (omega (arith, padded-enough)))
-    (padded-count-most (block p) message short (block-some p A))
 
 module _ (p : Parameters) (A : AcceptedScheme p) (Holds : ℕ → List ℕ → Type 0)
     (holds : (N : ℕ) → N ≤ mostPadded (block p) → (blocks keys : List ℕ) → Bytes (N * block p) blocks → Bytes (keyBytes p N) keys
@@ -217,11 +208,17 @@ rebuilt-is-split p A = of-split p A (ComesBack p) (comes-back p A)
 pub padded-rebuilt-is-split : (p : Parameters) → AcceptedScheme p → PaddedRebuiltIsSplit p
 padded-rebuilt-is-split p A = of-split-padded p A (ComesBack p) (comes-back p A)
 
-pub liar-named : (p : Parameters) → AcceptedScheme p → LiarNamed p
-liar-named p A = of-split p A (NamesTheLiar p) (names-the-liar p A)
+pub wrong-named : (p : Parameters) → AcceptedScheme p → WrongNamed p
+wrong-named p A = of-split p A (NamesTheWrong p) (names-the-wrong p A)
 
-pub padded-liar-named : (p : Parameters) → AcceptedScheme p → PaddedLiarNamed p
-padded-liar-named p A = of-split-padded p A (NamesTheLiar p) (names-the-liar p A)
+pub padded-wrong-named : (p : Parameters) → AcceptedScheme p → PaddedWrongNamed p
+padded-wrong-named p A = of-split-padded p A (NamesTheWrong p) (names-the-wrong p A)
+
+pub wrong-noticed : (p : Parameters) → AcceptedScheme p → WrongNoticed p
+wrong-noticed p A = of-split p A (NoticesTheWrong p) (notices-the-wrong p A)
+
+pub padded-wrong-noticed : (p : Parameters) → AcceptedScheme p → PaddedWrongNoticed p
+padded-wrong-noticed p A = of-split-padded p A (NoticesTheWrong p) (notices-the-wrong p A)
 
 -- ---- the forms without a scheme
 
@@ -231,8 +228,14 @@ default-rebuilt-is-split = rebuilt-is-split defaultParameters default-accepted
 pub default-padded-rebuilt-is-split : PaddedRebuiltIsSplit defaultParameters
 default-padded-rebuilt-is-split = padded-rebuilt-is-split defaultParameters default-accepted
 
-pub default-liar-named : LiarNamed defaultParameters
-default-liar-named = liar-named defaultParameters default-accepted
+pub default-wrong-named : WrongNamed defaultParameters
+default-wrong-named = wrong-named defaultParameters default-accepted
 
-pub default-padded-liar-named : PaddedLiarNamed defaultParameters
-default-padded-liar-named = padded-liar-named defaultParameters default-accepted
+pub default-padded-wrong-named : PaddedWrongNamed defaultParameters
+default-padded-wrong-named = padded-wrong-named defaultParameters default-accepted
+
+pub default-wrong-noticed : WrongNoticed defaultParameters
+default-wrong-noticed = wrong-noticed defaultParameters default-accepted
+
+pub default-padded-wrong-noticed : PaddedWrongNoticed defaultParameters
+default-padded-wrong-noticed = padded-wrong-noticed defaultParameters default-accepted

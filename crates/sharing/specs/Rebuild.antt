@@ -1,14 +1,14 @@
 -- Request h of document 02, a party's share rebuilt from whole shares, in words: the lines of the table that apply to a call in their order, what it
--- answers by them, and what it leaves; that what was split comes back; and that one wrong share is named. Nothing is asked of the scheme, the parties
--- or the lengths of a call: one that was accepted has shown what it takes. proofs/RebuildCalls.antt proves what a call did, proofs/RebuildSplit.antt what
--- comes of shares that were split. When shares agree is `Agree` in crates/agreement/specs/Agreement.antt.
+-- answers by them, and what it leaves; that what was split comes back; that one wrong share is named, and several are noticed. Nothing is asked of the
+-- scheme, the parties or the lengths of a call: one that was accepted has shown what it takes. proofs/RebuildCalls.antt proves what a call did,
+-- proofs/RebuildSplit.antt what comes of shares that were split. When shares agree is `Agree` in crates/agreement/specs/Agreement.antt.
 -- Assumes nothing.
 use mathlib.Core.Path.{_≡_}
 use mathlib.Core.Logic.{_⊎_, _↔_, _≢_}
 use mathlib.Core.List.{List, [], _∷_, _++_}
 use Prim.Native.Nat.{ℕ, _+_, _*_, _/_, _≤_, _<_}
 use lib.ListN.{length, getD}
-use Rattle.lists.specs.Each.{Each, Byte}
+use Rattle.lists.specs.Each.{Each, Distinct, Byte}
 use Rattle.lists.specs.Table.{joined, piece}
 use Rattle.lists.specs.Differing.{differing}
 use Rattle.scheme.specs.Limits.{maxMessage}
@@ -16,7 +16,7 @@ use Rattle.scheme.specs.Outcome.{accepted}
 use Rattle.scheme.specs.Readers.{Rising}
 use Rattle.scheme.specs.Grounds.{Ground, ground, NoneApplies, FirstApplies}
 use Rattle.family.specs.Message.{Bytes}
-use Rattle.staircase.specs.Parameters.{Parameters, Party, block, rows, blocksOf, paddedBlocksOf, shareBytes, outputBytes}
+use Rattle.staircase.specs.Parameters.{Parameters, Party, rows, blocksOf, paddedBlocksOf, shareBytes, outputBytes}
 use Rattle.staircase.specs.Shares.{partOf, KeyString, PaddedKeyString}
 use Rattle.agreement.specs.Agreement.{shareIn, Agree, AgreeWithout, enough}
 use Rattle.dealer.specs.Split.{splitOutput}
@@ -37,9 +37,13 @@ wholeBlocks p parties shares = shares / (parties * rows p)
 abbrev pub noParty : Parameters → ℕ → Ground
 noParty p wanted = ground 7 (Party p wanted → ⊥)
 
--- line 9: these are not whole shares of so many parties, or of more blocks than a message of an accepted length makes: 16,384 ÷ m rounded down, plus 1
+-- line 9: no message of an accepted length, in either form, gives so many parties whole shares of so many bytes. It gives each N blocks, and every N from 0
+-- up to 16,384 ÷ m rounded down, plus 1, is that of such a message
 abbrev pub notWhole : Parameters → ℕ → ℕ → Ground
-notWhole p parties shares = ground 9 ((N : ℕ) → N ≤ maxMessage / block p + 1 → shares ≢ parties * (N * rows p))
+notWhole p parties shares =
+    ground 9
+    ((message : ℕ) → message ≤ maxMessage
+    → (shares ≢ parties * shareBytes p (blocksOf p message)) × (shares ≢ parties * shareBytes p (paddedBlocksOf p message)))
 
 -- a list of parties, their shares, the wanted party, and a held copy and an output of so many bytes
 abbrev pub rebuildLines : Parameters → List ℕ → List ℕ → ℕ → ℕ → ℕ → List Ground
@@ -149,8 +153,8 @@ PaddedRebuiltIsSplit p = OfSplitPadded p (ComesBack p)
 
 -- lent whole shares of n − r + 2 parties or more, as they were written but for the one at place i, which is any other string of bytes of its length, the
 -- call answers 18 and names the party at that place, and leaves the output as it was
-abbrev pub NamesTheLiar : Parameters → ℕ → List ℕ → Type 0
-NamesTheLiar p N output =
+abbrev pub NamesTheWrong : Parameters → ℕ → List ℕ → Type 0
+NamesTheWrong p N output =
     (parties : List ℕ) → Rising 0 (p .n) parties → enough p + 2 ≤ length parties
     → (shares : List ℕ) → Bytes (length parties * (rows p * N)) shares
     → (i : ℕ) → i < length parties → piece (rows p * N) i shares ≢ partOf p N (getD parties i 0) output
@@ -159,9 +163,29 @@ NamesTheLiar p N output =
     → (rebuildAnswer p parties shares wanted held (length out) ≡ disagreeing (getD parties i 0))
     × (rebuildOutput p parties shares wanted (length held) out ≡ out)
 
--- of an accepted scheme (`liar-named`, `padded-liar-named`), one wrong share is named
-abbrev pub LiarNamed : Parameters → Type 0
-LiarNamed p = OfSplit p (NamesTheLiar p)
+-- of an accepted scheme (`wrong-named`, `padded-wrong-named`), one wrong share is named
+abbrev pub WrongNamed : Parameters → Type 0
+WrongNamed p = OfSplit p (NamesTheWrong p)
 
-abbrev pub PaddedLiarNamed : Parameters → Type 0
-PaddedLiarNamed p = OfSplitPadded p (NamesTheLiar p)
+abbrev pub PaddedWrongNamed : Parameters → Type 0
+PaddedWrongNamed p = OfSplitPadded p (NamesTheWrong p)
+
+-- lent whole shares of which n − r or more are as they were written, those at the places `right`, and one is not, that at place i, the call answers 18,
+-- whomever it names, and leaves the output as it was. All others are any bytes
+abbrev pub NoticesTheWrong : Parameters → ℕ → List ℕ → Type 0
+NoticesTheWrong p N output =
+    (parties : List ℕ) → Rising 0 (p .n) parties
+    → (shares : List ℕ) → Bytes (length parties * (rows p * N)) shares
+    → (right : List ℕ) → Distinct right → enough p ≤ length right
+    → Each (λ a. (a < length parties) × (piece (rows p * N) a shares ≡ partOf p N (getD parties a 0) output)) right
+    → (i : ℕ) → i < length parties → piece (rows p * N) i shares ≢ partOf p N (getD parties i 0) output
+    → (wanted : ℕ) (held out : List ℕ) → Asked p N wanted held out
+    → ((party : ℕ) × (rebuildAnswer p parties shares wanted held (length out) ≡ disagreeing party))
+    × (rebuildOutput p parties shares wanted (length held) out ≡ out)
+
+-- of an accepted scheme (`wrong-noticed`, `padded-wrong-noticed`), wrong shares are noticed
+abbrev pub WrongNoticed : Parameters → Type 0
+WrongNoticed p = OfSplit p (NoticesTheWrong p)
+
+abbrev pub PaddedWrongNoticed : Parameters → Type 0
+PaddedWrongNoticed p = OfSplitPadded p (NoticesTheWrong p)
