@@ -3,7 +3,8 @@
 -- Assumes nothing.
 use mathlib.Core.Path.{_≡_, refl}
 use mathlib.Core.Bool.{true, false}
-use mathlib.Core.List.{[], _∷_}
+use mathlib.Core.List.{List, [], _∷_}
+use Prim.Native.Nat.{ℕ}
 use Rattle.lists.specs.FirstFrom.{firstFrom}
 use Rattle.lists.specs.Table.{tabulate, joined, piece, pieces, flat}
 use Rattle.lists.specs.Without.{without, withoutPiece}
@@ -40,6 +41,10 @@ fourWithTwoKeys = parameters 4 1 2 (4 ∷ 3 ∷ [])
 abbrev fiveWithTwoKeys : Parameters
 fiveWithTwoKeys = parameters 5 2 2 (5 ∷ 3 ∷ [])
 
+-- four are enough, two more than may collude, so that a block has fewer rows than bytes: 4 bytes in 2 rows
+abbrev sixWithTwoOver : Parameters
+sixWithTwoOver = parameters 6 2 2 (6 ∷ 4 ∷ [])
+
 -- the schemes of the examples are accepted
 pub schemes :
     AcceptedScheme schemeA
@@ -47,8 +52,9 @@ pub schemes :
     × AcceptedScheme fourOfOneRow
     × AcceptedScheme fourWithTwoKeys
     × AcceptedScheme fiveWithTwoKeys
+    × AcceptedScheme sixWithTwoOver
 unfolding firstOf divides firstFrom commonMultiple blockLength falls partiesRefused thresholdsRefused countsRefused blockRefused refusal
-schemes = (refl, refl, refl, refl, refl)
+schemes = (refl, refl, refl, refl, refl, refl)
 
 pub examples :
     -- only places where both have a byte count
@@ -107,3 +113,27 @@ pub two-key-examples :
     × (named fiveWithTwoKeys (1 ∷ 2 ∷ 3 ∷ 4 ∷ 5 ∷ []) 1 (14 ∷ 3 ∷ 2 ∷ 61 ∷ 18 ∷ 24 ∷ 40 ∷ 19 ∷ 19 ∷ 137 ∷ 106 ∷ 48 ∷ 226 ∷ 107 ∷ 59 ∷ []) ≡ 1)
 unfolding _⊕_ _⊗_ byte.product reduce cut squaresProduct _⊘_ next eval plus scale linear above vanishing through fitted divides firstFrom commonMultiple blockLength rowsOfCount rowsOfBlock tabulate joined piece pieces flat differing shareOfBlocks readings openedBlocks point rowOf keyed copied withGroups rowsOf staircase groupOf countOf originIn origin upperPart lowerPart placed openedFrom openedBlock openedLower openedKeys openedString foundBlocks foundKeys rebuilt without withoutPiece agrees named
 two-key-examples = (refl, refl, refl, refl, refl, refl, refl)
+
+-- the blocks 5 7 1 3 and 2 8 6 128 under the keys 9 4 and 2 6, and 8 10 and 13 11: the shares of parties 2 3 5 6
+abbrev fourShares : List ℕ
+fourShares = 93 ∷ 159 ∷ 18 ∷ 111 ∷ 125 ∷ 234 ∷ 28 ∷ 207 ∷ 116 ∷ 239 ∷ 242 ∷ 111 ∷ 99 ∷ 207 ∷ 138 ∷ 29 ∷ []
+
+-- of parties 1 2 3 5 6, and of all, with a wrong byte in that of party 3, 206 for 207
+abbrev fiveShares : List ℕ
+fiveShares = 13 ∷ 142 ∷ 6 ∷ 128 ∷ 93 ∷ 159 ∷ 18 ∷ 111 ∷ 125 ∷ 234 ∷ 28 ∷ 206 ∷ 116 ∷ 239 ∷ 242 ∷ 111 ∷ 99 ∷ 207 ∷ 138 ∷ 29 ∷ []
+
+abbrev sixShares : List ℕ
+sixShares =
+    13 ∷ 142 ∷ 6 ∷ 128 ∷ 93 ∷ 159 ∷ 18 ∷ 111 ∷ 125 ∷ 234 ∷ 28 ∷ 206 ∷ 61 ∷ 208 ∷ 202 ∷ 12 ∷ 116 ∷ 239 ∷ 242 ∷ 111 ∷ 99 ∷ 207 ∷ 138 ∷ 29 ∷ []
+
+pub two-over-examples :
+    -- two blocks and their keys are found from four parties, and with them the share of party 4
+    (foundBlocks sixWithTwoOver (2 ∷ 3 ∷ 5 ∷ 6 ∷ []) 2 fourShares ≡ 5 ∷ 7 ∷ 1 ∷ 3 ∷ 2 ∷ 8 ∷ 6 ∷ 128 ∷ [])
+    × (foundKeys sixWithTwoOver (2 ∷ 3 ∷ 5 ∷ 6 ∷ []) 2 fourShares ≡ 9 ∷ 4 ∷ 2 ∷ 6 ∷ 8 ∷ 10 ∷ 13 ∷ 11 ∷ [])
+    × (rebuilt sixWithTwoOver (2 ∷ 3 ∷ 5 ∷ 6 ∷ []) 2 fourShares 4 ≡ 61 ∷ 208 ∷ 202 ∷ 12 ∷ [])
+    -- the wrong share, one of the first four: of six parties it is named, of five nobody is
+    × (named sixWithTwoOver (1 ∷ 2 ∷ 3 ∷ 4 ∷ 5 ∷ 6 ∷ []) 2 sixShares ≡ 3)
+    × (agrees sixWithTwoOver (1 ∷ 2 ∷ 3 ∷ 5 ∷ 6 ∷ []) 2 fiveShares ≡ false)
+    × (named sixWithTwoOver (1 ∷ 2 ∷ 3 ∷ 5 ∷ 6 ∷ []) 2 fiveShares ≡ 0)
+unfolding _⊕_ _⊗_ byte.product reduce cut squaresProduct _⊘_ next eval plus scale linear above vanishing through fitted divides firstFrom commonMultiple blockLength rowsOfCount rowsOfBlock tabulate joined piece pieces flat differing shareOfBlocks readings openedBlocks point rowOf keyed copied withGroups rowsOf staircase groupOf countOf originIn origin upperPart lowerPart placed openedFrom openedBlock openedLower openedKeys openedString foundBlocks foundKeys rebuilt without withoutPiece agrees named
+two-over-examples = (refl, refl, refl, refl, refl, refl)
