@@ -18,14 +18,10 @@ use Rattle.lists.proofs.Tests.{lt-or-le}
 use Rattle.lists.proofs.Each.{each-of}
 use Rattle.lists.proofs.FirstFrom.{first-found}
 use Rattle.lists.proofs.Without.{length-without, each-without, distinct-without}
-use Rattle.lists.proofs.Skipped.{skipped-before, skipped-after, skipped-other, skipped-below, skipped-back, unskipped, unskipped-below, getD-without, length-without-piece, piece-without, each-without-piece}
+use Rattle.lists.proofs.Skipped.{skipped-other, skipped-apart, skipped-below, skipped-back, unskipped, unskipped-below, getD-without, length-without-piece, piece-without, each-without-piece}
 use Rattle.staircase.specs.Parameters.{Parameters, Party, rows}
 use Rattle.agreement.specs.Agreement.{shareIn, GiveAll, Agree, AgreeWithout, enough, agreesWithout, named, Lent, Agreement, Named, NamedIs, NoneNamed}
 use Rattle.agreement.proofs.Agreement.{same-share, agreement}
-
-skipped-apart : (i j x : ℕ) → i < j → x ≢ i → skipped j x ≢ i
-skipped-apart i j x less n e =
-    ⊎-elim (λ (l : x < j). n (sym (skipped-before j x l) ∙ e)) (λ (l : j ≤ x). omega (arith, skipped-after j x l)) (lt-or-le x j)
 
 module _ (p : Parameters) (parties : List ℕ) (N : ℕ) (shares : List ℕ) (L : Lent p parties N shares) where
   abbrev c : ℕ

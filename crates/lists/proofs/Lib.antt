@@ -9,6 +9,7 @@ pub mod Search
 pub mod FirstFrom
 pub mod Members
 pub mod Without
+pub mod Places
 pub mod Fill
 pub mod Known
 pub mod Arrays

@@ -36,6 +36,11 @@ pub skipped-other : (i a : ℕ) → skipped i a ≢ i
 skipped-other i a e =
     ⊎-elim (λ (h : a < i). omega (arith, skipped-before i a h)) (λ (h : i ≤ a). omega (arith, skipped-after i a h)) (lt-or-le a i)
 
+-- a place before it is passed to by no other
+pub skipped-apart : (i j x : ℕ) → i < j → x ≢ i → skipped j x ≢ i
+skipped-apart i j x less n e =
+    ⊎-elim (λ (l : x < j). n (sym (skipped-before j x l) ∙ e)) (λ (l : j ≤ x). omega (arith, skipped-after j x l)) (lt-or-le x j)
+
 pub skipped-below : (i a n : ℕ) → a + 1 < n → skipped i a < n
 skipped-below i a n h =
     ⊎-elim (λ (l : a < i). omega (arith, skipped-before i a l)) (λ (l : i ≤ a). omega (arith, skipped-after i a l)) (lt-or-le a i)

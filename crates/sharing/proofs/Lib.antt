@@ -10,7 +10,6 @@ pub mod PaddedCalls
 pub mod PoolCalls
 pub mod Range
 pub mod RebuildCalls
-mod Places
 pub mod RebuildSplit
 pub mod Divisors
 pub mod Starred

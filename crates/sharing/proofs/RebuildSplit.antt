@@ -37,7 +37,7 @@ use Rattle.dealer.proofs.Laws.{none-applies, written, padded-none-applies, padd
 use Rattle.agreement.specs.Rebuild.{disagreeing, blocksLent, lentRefusal, rebuildAnswer, rebuildOutput}
 use Rattle.sharing.specs.Rebuild.{OfSplit, OfSplitPadded, Asked, ComesBack, NamesTheWrong, NoticesTheWrong, RebuiltIsSplit, PaddedRebuiltIsSplit, WrongNamed, PaddedWrongNamed, WrongNoticed, PaddedWrongNoticed}
 use Rattle.sharing.proofs.RebuildCalls.{no-party, wrong-copy, blocks-few, told-of, some-bytes, rising-lent, agree-tested}
-use Rattle.sharing.proofs.Places.{distinct-few, places-apart}
+use Rattle.lists.proofs.Places.{distinct-few, places-apart}
 
 -- ---- whole shares of N blocks that are lent
 
