@@ -189,9 +189,9 @@ module _ (p : Parameters) (parties : List ℕ) (N : ℕ) (shares : List ℕ) (L 
       sym (piece-joined (length parties) (rows p * N) f long a h) ∙ ap (piece (rows p * N) a) (sym same)
 
   -- the first of them, as many as are enough, have what is rebuilt
-  pub first-given : (a : ℕ) → a < enough p → rebuilt p parties N shares (getD parties a 0) ≡ piece (rows p * N) a shares
+  pub first-rebuilt : (a : ℕ) → a < enough p → rebuilt p parties N shares (getD parties a 0) ≡ piece (rows p * N) a shares
   unfolding rebuilt staircase
-  first-given a h =
+  first-rebuilt a h =
       let found : List ℕ = foundBlocks p parties N shares in
       let keys : List ℕ = foundKeys p parties N shares in
       ap (shareIn p N found keys) (sym (getD-take (enough p) parties a 0 h))
@@ -211,7 +211,7 @@ module _ (p : Parameters) (parties : List ℕ) (N : ℕ) (shares : List ℕ) (L 
 
   pub only-enough : length parties ≡ enough p → Agree p parties N shares
   unfolding rebuilt
-  only-enough e = found-agree (λ a h. first-given a (rw e at h))
+  only-enough e = found-agree (λ a h. first-rebuilt a (rw e at h))
 
   pub agreement-of : Agreement p parties N shares
   agreement-of =

@@ -18,8 +18,7 @@ use Rattle.lists.proofs.Differing.{differing-self}
 use Rattle.lists.proofs.Skipped.{skipped-before, skipped-other, skipped-back, unskipped, getD-without, without-far, piece-without, without-past, left-inside}
 use Rattle.staircase.specs.Parameters.{Parameters, rows}
 use Rattle.agreement.specs.Agreement.{shareIn, GiveAll, enough, foundBlocks, foundKeys, rebuilt, agrees, Lent}
-use Rattle.agreement.proofs.Agreement as agreement
-use Rattle.agreement.proofs.Agreement.{found-bytes, found-keys-bytes, key-number, tested-gives, gives-tested}
+use Rattle.agreement.proofs.Agreement.{found-bytes, found-keys-bytes, key-number, tested-gives, gives-tested, first-rebuilt}
 use Rattle.agreement.proofs.Named.{lent-without, but-of}
 
 module _ (p : Parameters) (parties : List ℕ) (N : ℕ) (shares : List ℕ) (L : Lent p parties N shares) (skip : ℕ) where
@@ -82,7 +81,7 @@ module _ (p : Parameters) (parties : List ℕ) (N : ℕ) (shares : List ℕ) (L 
         let who : getD left (unskipped skip a) 0 ≡ getD parties a 0 =
         getD-without parties skip (unskipped skip a) ∙ ap (λ (x : ℕ). getD parties x 0) back in
         ap (rebuilt p left N leftShares) (sym who)
-        ∙ agreement.first-given p left N leftShares lent-left many (unskipped skip a) h
+        ∙ first-rebuilt p left N leftShares lent-left many (unskipped skip a) h
         ∙ piece-left (unskipped skip a) (omega arith)
         ∙ ap (λ (x : ℕ). piece w x shares) back
 

@@ -31,7 +31,7 @@ use Rattle.staircase.specs.Shares.{staircase, shares, paddedShares, partOf}
 use Rattle.staircase.proofs.Construction.{share-bytes}
 use Rattle.staircase.proofs.Hidden.{part-is-share}
 use Rattle.staircase.proofs.Sizes.{block-some}
-use Rattle.agreement.specs.Agreement.{shareIn, GiveAll, Agree, enough, rebuilt, agrees, named, Lent, Agreement}
+use Rattle.agreement.specs.Agreement.{shareIn, GiveAll, Agree, enough, rebuilt, agrees, named, Agreement}
 use Rattle.agreement.proofs.Laws.{agreement, same-share, names-one, to-all}
 use Rattle.dealer.proofs.Laws.{none-applies, written, padded-none-applies, padded-written}
 use Rattle.agreement.specs.Rebuild.{disagreeing, blocksLent, lentRefusal, rebuildAnswer, rebuildOutput}
@@ -43,11 +43,8 @@ use Rattle.lists.proofs.Places.{distinct-few, places-apart}
 
 module _ (p : Parameters) (A : AcceptedScheme p) (N : ℕ) (fits : N ≤ mostPadded (block p)) (parties : List ℕ) (rising : Rising 0 (p .n) parties)
     (many : enough p ≤ length parties) (shares : List ℕ) (whole : Bytes (length parties * (rows p * N)) shares) where
-  lent : Lent p parties N shares
-  lent = rising-lent p A parties rising N shares whole
-
   decided : Agreement p parties N shares
-  decided = agreement p parties N shares lent many
+  decided = agreement p parties N shares (rising-lent p A parties rising N shares whole) many
 
   long : length shares ≡ length parties * shareBytes p N
   long = whole .0 ∙ ap (λ (x : ℕ). length parties * x) (mul-comm (rows p) N)
