@@ -4,7 +4,7 @@ use mathlib.Core.Path.{_≡_, sym, _∙_}
 use mathlib.Core.Bool.{true, false, cond, not}
 use mathlib.Core.List.{List, [], _∷_}
 use Prim.Native.Nat.{ℕ, _+_, _*_, _/_, _≤_, _<_}
-use native.Mathlib.Nat.{mul-le-mul-right, mul-comm, div-le-self}
+use native.Mathlib.Nat.{mul-le-mul-right, mul-comm, le-refl}
 use native.Mathlib.Omega.{arith}
 use lib.Dec.{ltb, eqb}
 use lib.ListN.{length, take}
@@ -19,11 +19,11 @@ use Rattle.scheme.specs.Facts.{SchemeIs}
 use Rattle.scheme.specs.Limits.{maxMessage, maxBlocks}
 use Rattle.scheme.specs.Outcome.{outcome, answer}
 use Rattle.scheme.specs.Check.{rowsOfCount, blockCount}
-use Rattle.scheme.specs.Padding.{paddedCount, mostPadded, blocksHeld}
+use Rattle.scheme.specs.Padding.{mostPadded, blocksHeld}
 use Rattle.staircase.specs.Parameters.{Parameters, AcceptedScheme, block, rows}
 use Rattle.party.specs.Prefix.{prefixRefusal, prefixLength, prefixAnswer, prefixOf}
 use Rattle.party.specs.PrefixPadded.{blocksKept, prefixPaddedRefusal, prefixPaddedLength, prefixPaddedAnswer, prefixPaddedOf}
-use Rattle.scheme.proofs.Laws.{first-none, first-if, kept, told-refused, told-accepted, held-told, held-quotient}
+use Rattle.scheme.proofs.Laws.{first-none, first-if, kept, told-refused, told-accepted, held-told, held-quotient, padded-count-few}
 use Rattle.staircase.proofs.Sizes.{rows-within, blocks-are}
 
 -- the code's P × N: s is what the check answers, N the blocks of the message and P the rows of d
@@ -33,15 +33,15 @@ unfolding prefixLength
 prefix-length-is p s is message d N P N-is P-is = rw (P-is, blocks-are p s is message N N-is, is .block-is)
 
 -- and N of a share of a padded message, which the share's length tells; more are not accepted than a message makes
-module _ (p : Parameters) (s : Scheme) (is : SchemeIs s (p .n) (p .r) (p .z) (p .counts)) (share N : ℕ) (N-is : N ≡ blocksHeld (maxMessage / s .block + 1) (s .rows) share) where
+module _ (p : Parameters) (s : Scheme) (is : SchemeIs s (p .n) (p .r) (p .z) (p .counts)) (share N : ℕ) (N-is : N ≡ blocksHeld (mostPadded (s .block)) (s .rows) share) where
   pub kept-is : N ≡ blocksKept p share
-  unfolding blocksKept paddedCount
+  unfolding blocksKept
   kept-is = N-is ∙ rw (is .block-is, is .rows-is)
 
   pub kept-few : 0 < N → N ≤ maxBlocks
   kept-few some =
-      let told = held-told (maxMessage / s .block + 1) (s .rows) share (rw N-is at some) .1 in
-      omega (arith, N-is, told, div-le-self maxMessage (s .block))
+      let told = held-told (mostPadded (s .block)) (s .rows) share (rw N-is at some) .1 in
+      omega (arith, N-is, told, padded-count-few (s .block) maxMessage (le-refl maxMessage))
 
   pub padded-length-is : (d P : ℕ) → P ≡ rowsOfCount (s .block) (p .z) d → P * N ≡ prefixPaddedLength p d share
   unfolding prefixPaddedLength

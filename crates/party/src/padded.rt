@@ -11,7 +11,6 @@ use scheme::limits::DEFAULT_COUNTS;
 use scheme::limits::DEFAULT_N;
 use scheme::limits::DEFAULT_R;
 use scheme::limits::DEFAULT_Z;
-use scheme::limits::MAX_MESSAGE;
 use scheme::padding;
 
 // The length of the prefix for the count d of a share of a padded message. Refusals 1 to 4: those of the
@@ -25,7 +24,7 @@ pub fn prefix_padded_length(n: u8, r: u8, z: u8, counts: &[u8], d: usize, share:
     };
     // What a test asks is worked out before it, so that two of them stand in the table's order, side by side.
     let counted = scheme::is_count(d, counts);
-    let most = MAX_MESSAGE / s.block + 1;
+    let most = padding::most_blocks(s.block);
     let blocks = padding::blocks_held(most, s.rows, share.len());
     if !counted {
         return Answer::Refused(6);

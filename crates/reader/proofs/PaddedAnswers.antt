@@ -4,7 +4,7 @@ use mathlib.Core.Path.{_≡_, refl, sym, ap, _∙_}
 use mathlib.Core.Bool.{true, false}
 use mathlib.Core.List.{List, [], _∷_}
 use mathlib.Core.Logic.{⊎-elim}
-use Prim.Native.Nat.{ℕ, _+_, _*_, _/_, _≤_, _<_}
+use Prim.Native.Nat.{ℕ, _+_, _*_, _≤_, _<_}
 use native.Mathlib.Nat.{eq-zero-or-pos, zero-mul, mul-comm, le-refl}
 use native.Mathlib.Omega.{arith}
 use lib.Dec.{eqb}
@@ -19,7 +19,7 @@ use Rattle.scheme.specs.Limits.{maxBlock, maxMessage}
 use Rattle.scheme.specs.Outcome.{accepted}
 use Rattle.scheme.specs.Check.{rowsOfCount}
 use Rattle.scheme.specs.Readers.{readersRefused}
-use Rattle.scheme.specs.Padding.{paddedCount, mostPadded, blocksHeld}
+use Rattle.scheme.specs.Padding.{mostPadded, blocksHeld}
 use Rattle.scheme.proofs.Laws.{answer-none, scheme-own, held-told, most-full, padded-count-few}
 use Rattle.family.specs.Padding.{endPlace, endRefused}
 use Rattle.staircase.specs.Parameters.{Parameters, block, prefixRows, parametersOf}
@@ -51,8 +51,8 @@ held-small m unit bytes positive most =
 module _ (p : Parameters) (s : Scheme) (is : SchemeIs s (p .n) (p .r) (p .z) (p .counts)) where
   -- P is the rows of d parties
   pub told-blocks : (d P : ℕ) → P ≡ rowsOfCount (s .block) (p .z) d
-      → (bytes N : ℕ) → N ≡ blocksHeld (maxMessage / s .block + 1) (d * P) bytes → N ≡ blocksSent p d bytes
-  unfolding blocksSent paddedCount
+      → (bytes N : ℕ) → N ≡ blocksHeld (mostPadded (s .block)) (d * P) bytes → N ≡ blocksSent p d bytes
+  unfolding blocksSent
   told-blocks d P P-is bytes N N-is = N-is ∙ rw (P-is, is .block-is)
 
   pub size-small : (d bytes N : ℕ) → N ≡ blocksSent p d bytes → N * s .block ≤ maxMessage + maxBlock

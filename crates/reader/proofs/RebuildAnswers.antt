@@ -4,7 +4,7 @@ use mathlib.Core.Path.{_≡_, refl, ap, ap₂, _∙_}
 use mathlib.Core.Bool.{true, false, cond}
 use mathlib.Core.List.{List, [], _∷_}
 use mathlib.Core.Logic.{⊎-elim}
-use Prim.Native.Nat.{ℕ, _+_, _-_, _*_, _/_, _≤_, _<_}
+use Prim.Native.Nat.{ℕ, _+_, _-_, _*_, _≤_, _<_}
 use native.Mathlib.Nat.{mul-le-mul, mul-le-mul-right, mul-comm, eq-zero-or-pos, le-of-eq, le-refl}
 use native.Mathlib.Omega.{arith}
 use lib.Dec.{eqb}
@@ -15,7 +15,7 @@ use Rattle.scheme.specs.declared.Scheme.{Scheme}
 use Rattle.scheme.specs.Facts.{SchemeFacts, SchemeIs}
 use Rattle.scheme.specs.Limits.{maxBlock, maxBlocks, maxMessage}
 use Rattle.scheme.specs.Outcome.{Outcome, accepted, refused, firstOf}
-use Rattle.scheme.specs.Padding.{paddedCount, mostPadded, blocksHeld}
+use Rattle.scheme.specs.Padding.{mostPadded, blocksHeld}
 use Rattle.scheme.specs.Readers.{readersRefused}
 use Rattle.scheme.proofs.Laws.{Way, refuses, answer-number, scheme-own, held-told, padded-count-few}
 use Rattle.staircase.specs.Parameters.{Parameters, parametersOf, block, rows, shareBytes}
@@ -61,16 +61,15 @@ module _ (p : Parameters) (s : Scheme) (is : SchemeIs s (p .n) (p .r) (p .z) (p 
   unit-few parties passed = mul-le-mul (few-parties parties passed) rows-few
 
   -- the code's N, and what follows from it
-  module _ (parties shares N : ℕ) (N-is : N ≡ blocksHeld (maxMessage / s .block + 1) (parties * s .rows) shares) where
+  module _ (parties shares N : ℕ) (N-is : N ≡ blocksHeld (mostPadded (s .block)) (parties * s .rows) shares) where
     pub blocks-are : N ≡ blocksLent p parties shares
-    unfolding blocksLent paddedCount
+    unfolding blocksLent
     blocks-are = N-is ∙ rw (is .block-is, is .rows-is)
 
     pub size-is : N * s .rows ≡ shareBytes p (blocksLent p parties shares)
     size-is = ap₂ _*_ blocks-are (is .rows-is)
 
     pub blocks-high : N ≤ maxBlocks
-    unfolding paddedCount
     blocks-high =
         ⊎-elim (λ (e : N ≡ 0). omega arith)
         (λ (h : 0 < N).
@@ -79,7 +78,6 @@ module _ (p : Parameters) (s : Scheme) (is : SchemeIs s (p .n) (p .r) (p .z) (p 
         (eq-zero-or-pos N)
 
     pub room-fits : RoomFits s N
-    unfolding paddedCount
     room-fits =
         record {
           blocks-fit = rw N-is (held-small (s .block) (parties * s .rows) shares (m-some p s is) (m-most p s is));

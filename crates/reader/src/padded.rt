@@ -46,7 +46,7 @@ pub fn reconstruct_padded(
     if unordered {
         return PaddedAnswer::Refused(7);
     }
-    let most = limits::MAX_MESSAGE / s.block + 1;
+    let most = padding::most_blocks(s.block);
     let rows = scheme::rows_of_count(s.block, z, d);
     let blocks = padding::blocks_held(most, d * rows, prefixes.len());
     let size = blocks * s.block;

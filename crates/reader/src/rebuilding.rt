@@ -61,7 +61,7 @@ pub fn rebuild(
     if many < (n as usize) - (r as usize) {
         return RebuildAnswer::Refused(17);
     }
-    let most = limits::MAX_MESSAGE / s.block + 1;
+    let most = padding::most_blocks(s.block);
     let blocks = padding::blocks_held(most, many * s.rows, shares.len());
     let size = blocks * s.rows;
     if shares.len() != many * size {

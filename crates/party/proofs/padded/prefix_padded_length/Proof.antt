@@ -4,14 +4,14 @@
 use mathlib.Core.Path.{_≡_, sym, ap, _∙_}
 use mathlib.Core.Bool.{not}
 use Prim.Native.Nat.{_<_}
-use native.Mathlib.Nat.{div-le-self}
 use native.Mathlib.Omega.{arith}
+use lib.ListN.{length}
 use borrow.Author.Needs.{needs}
 use borrow.Author.Tests.{eq-eqb, ne-eqb}
 use Rattle.lists.specs.Each.{occurs}
 use Rattle.scheme.specs.Facts.{SchemeIs}
-use Rattle.scheme.specs.Limits.{maxMessage}
-use Rattle.scheme.proofs.Laws.{accepted, accepted-scheme, answers, done, pass, stop-scheme, stop-true, pass-false}
+use Rattle.scheme.specs.Padding.{mostPadded, blocksHeld}
+use Rattle.scheme.proofs.Laws.{accepted-scheme, answers, done, pass, stop-scheme, stop-true, pass-false}
 use Rattle.party.specs.PrefixPadded.{prefixPaddedRefusal, prefixPaddedAnswer}
 use Rattle.party.proofs.Handing.{kept-is, kept-few, padded-length-is}
 use Rattle.staircase.proofs.Sizes.{prefix-small}
@@ -29,6 +29,13 @@ scheme-of c = accepted-scheme (c .before .before .before .check .ensures) (c .be
 count-test : (c : tie.After-is-count) → let a = start (c .before) .args in not (occurs (a .d) (a .counts .now)) ≡ not (c .is-count .result)
 count-test c = ap not (sym (c .is-count .ensures))
 
+-- the blocks that the share's length tells
+held-is : (c : tie.After-blocks-held)
+    → let k = c .before .before .before in
+    let s = k .before .answer .given .0 .0 in
+    c .blocks-held .result ≡ blocksHeld (mostPadded (s .block)) (s .rows) (length (start k .args .share .now))
+held-is c = rw (← c .before .most-blocks .ensures) (c .blocks-held .ensures)
+
 -- past the test for 9
 some : (c : tie.Else2) → 0 < c .before .before .blocks-held .result
 some c = omega (arith, c .if2 .left)
@@ -44,10 +51,7 @@ prefix-padded-length-spec =
     (λ c κs. search needs)
     (λ c. answers (stop-scheme _ _ _ _ (c .before .before .before .check .ensures) (c .before .enum-told .given .1) (c .refusal .ensures)))
     (λ c κs. search needs)
-    (λ c.
-    let is = scheme-of (c .before .before) in
-    rw (is .block-is) (accepted _ _ _ _ (is .passed) .least .positive))
-    (λ c. omega (arith, div-le-self maxMessage (c .before .before .before .answer .given .0 .0 .block)))
+    (λ c κs. search needs)
     (λ c κs. search needs)
     (λ c.
     let k = c .before .before .before in
@@ -56,18 +60,18 @@ prefix-padded-length-spec =
     let b = c .before .before in
     let k = b .before .before in
     let is = scheme-of (k .before) in
-    answers (pass (is .passed) (pass-false 6 (count-test k ∙ c .before .if1 .left) (stop-true (eq-eqb _ 0 (sym (kept-is _ _ is _ _ (b .blocks-held .ensures)) ∙ c .if2 .taken))))))
+    answers (pass (is .passed) (pass-false 6 (count-test k ∙ c .before .if1 .left) (stop-true (eq-eqb _ 0 (sym (kept-is _ _ is _ _ (held-is b)) ∙ c .if2 .taken))))))
     (λ c κs. search needs)
     (λ c.
     let e = c .before in
     let b = e .before .before in
     let is = scheme-of (b .before .before .before) in
-    omega (arith, prefix-small _ _ is _ (kept-few _ _ is _ _ (b .blocks-held .ensures) (some e)) _ _ _ (c .rows-of-count .ensures)))
+    omega (arith, prefix-small _ _ is _ (kept-few _ _ is _ _ (held-is b) (some e)) _ _ _ (c .rows-of-count .ensures)))
     (λ c.
     let e = c .before in
     let b = e .before .before in
     let k = b .before .before in
     let is = scheme-of (k .before) in
-    let same = kept-is _ _ is _ _ (b .blocks-held .ensures) in
-    rw (padded-length-is _ _ is _ _ (b .blocks-held .ensures) _ _ (c .rows-of-count .ensures))
+    let same = kept-is _ _ is _ _ (held-is b) in
+    rw (padded-length-is _ _ is _ _ (held-is b) _ _ (c .rows-of-count .ensures))
     (answers (pass (is .passed) (pass-false 6 (count-test k ∙ e .before .if1 .left) (pass-false 9 (ne-eqb _ 0 (λ q. e .if2 .left (same ∙ q))) done))))))

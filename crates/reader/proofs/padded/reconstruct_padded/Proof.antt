@@ -3,7 +3,6 @@
 -- Assumes nothing.
 use mathlib.Core.Path.{_≡_, sym, ap, _∙_}
 use mathlib.Core.Bool.{true, false, not}
-use native.Mathlib.Nat.{div-le-self}
 use native.Mathlib.Omega.{arith}
 use lib.ListN.{length}
 use borrow.Author.Needs.{needs}
@@ -11,13 +10,12 @@ use borrow.Author.Tests.{not-false, eq-eqb}
 use Rattle.lists.specs.Each.{occurs}
 use Rattle.scheme.specs.declared.Scheme.{Scheme}
 use Rattle.scheme.specs.Facts.{SchemeIs}
-use Rattle.scheme.specs.Limits.{maxMessage}
 use Rattle.scheme.specs.Readers.{readersRefused}
 use Rattle.scheme.proofs.Laws.{accepted-scheme, refuses, numbered, done, pass, stop-scheme, stop-true, pass-false, stop-other, pass-same}
 use Rattle.staircase.specs.Parameters.{Parameters, parameters}
 use Rattle.staircase.proofs.Sizes.{count-most}
 use Rattle.reader.specs.ReconstructPadded.{blocksSent, reconstructPaddedRefusal, reconstructPaddedAnswer, reconstructPaddedOutput}
-use Rattle.reader.proofs.OpenerAnswers.{m-some, rows-small}
+use Rattle.reader.proofs.OpenerAnswers.{rows-small}
 use Rattle.reader.proofs.PaddedAnswers.{told-blocks, size-small, BlocksTold, some-blocks, size-is, sought-fits, counted-told, sought-turns, ends-nowhere, unwritten, ends-within, opens-padded}
 use Rattle.reader.proofs.padded.reconstruct_padded.Statement.{statement}
 use Rattle.reader.proofs.padded.reconstruct_padded.Tie as tie
@@ -67,7 +65,8 @@ module _ (c : tie.Else2) where
 told-is : (c : tie.After-blocks-held)
     → let e = c .before .before .before in
     c .blocks-held .result ≡ blocksSent (p e) (length (st e .args .parties .now)) (length (st e .args .prefixes .now))
-told-is c = told-blocks _ _ (is (c .before .before .before)) _ _ (c .before .rows-of-count .ensures) _ _ (c .blocks-held .ensures)
+told-is c =
+    told-blocks _ _ (is (c .before .before .before)) _ _ (c .before .rows-of-count .ensures) _ _ (rw (← c .before .before .most-blocks .ensures) (c .blocks-held .ensures))
 
 -- past refusal 9
 module _ (c : tie.Else3) where
@@ -107,8 +106,7 @@ reconstruct-padded-spec =
     let r = f .before in
     let bad = sym (r .readers-refused .ensures) ∙ c .if2 .taken in
     refuses _ (pass (scheme-of (r .before .before) .passed) (pass-false 6 (count-test (r .before) ∙ f .if1 .left) (stop-true bad))))
-    (λ c. m-some _ _ (is (c .before)))
-    (λ c. omega (arith, div-le-self maxMessage (scheme (c .before) .block)))
+    (λ c κs. search needs)
     (λ c κs. search needs)
     (λ c.
     let e = c .before .before in

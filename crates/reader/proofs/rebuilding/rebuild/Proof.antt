@@ -5,7 +5,7 @@ use mathlib.Core.Path.{_≡_, refl, sym, ap, _∙_}
 use mathlib.Core.Bool.{false}
 use mathlib.Core.List.{List, _∷_}
 use Prim.Native.Nat.{ℕ, _-_, _*_, _≤_}
-use native.Mathlib.Nat.{div-le-self, mul-comm}
+use native.Mathlib.Nat.{mul-comm}
 use native.Mathlib.Omega.{arith}
 use lib.Dec.{ltb}
 use lib.ListN.{length}
@@ -13,14 +13,13 @@ use borrow.Author.Needs.{needs}
 use borrow.Author.Tests.{lt-ltb, le-ltb}
 use Rattle.scheme.specs.declared.Scheme.{Scheme}
 use Rattle.scheme.specs.Facts.{SchemeIs}
-use Rattle.scheme.specs.Limits.{maxMessage}
 use Rattle.scheme.specs.Outcome.{Outcome, numberIf}
 use Rattle.scheme.specs.Check.{refusal}
 use Rattle.scheme.specs.Readers.{readersRefused}
+use Rattle.scheme.specs.Padding.{mostPadded, blocksHeld}
 use Rattle.scheme.proofs.Laws.{Way, accepted-scheme, numbered, done, pass, stop-scheme, stop-true, pass-false, stop-other, pass-same}
 use Rattle.staircase.specs.Parameters.{Parameters, parameters, shareBytes}
 use Rattle.agreement.specs.Rebuild.{blocksLent, wantedRefused, heldRefused, lentRefusal, rebuildAnswer, rebuildOutput}
-use Rattle.reader.proofs.OpenerAnswers.{m-some}
 use Rattle.reader.proofs.RebuildAnswers.{turns-away, lost-low, unit-few, blocks-are, size-is, blocks-high, room-fits, size-small, all-small, lends, ends}
 use Rattle.reader.proofs.rebuilding.rebuild.Statement.{statement}
 use Rattle.reader.proofs.rebuilding.rebuild.Tie as tie
@@ -75,11 +74,14 @@ module _ (c : tie.After-blocks-held) where
   abbrev lent : ℕ
   lent = blocksLent (p k) (length (st k .args .parties .now)) (length (st k .args .shares .now))
 
+  held-is : N ≡ blocksHeld (mostPadded (scheme k .block)) (length (st k .args .parties .now) * scheme k .rows) (length (st k .args .shares .now))
+  held-is = rw (← c .before .before .most-blocks .ensures) (c .blocks-held .ensures)
+
   N-is : N ≡ lent
-  N-is = blocks-are (p k) (scheme k) (is k) _ _ N (c .blocks-held .ensures)
+  N-is = blocks-are (p k) (scheme k) (is k) _ _ N held-is
 
   size : N * scheme k .rows ≡ shareBytes (p k) lent
-  size = size-is (p k) (scheme k) (is k) _ _ N (c .blocks-held .ensures)
+  size = size-is (p k) (scheme k) (is k) _ _ N held-is
 
   -- the refusals before 9 do not apply
   passed : {vs qs : List ℕ} {o : Outcome} → Way vs qs o
@@ -137,10 +139,7 @@ rebuild-spec =
     turns-away _ _
     (pass (is (told e) .passed)
     (pass-false 7 (rising e) (pass-false 7 (sym (w .wanted-refused .ensures) ∙ t .if2 .left) (stop-true (lt-ltb _ _ (c .if3 .taken)))))))
-    (λ c.
-    let t = known (c .before) in
-    m-some (p t) (scheme t) (is t))
-    (λ c. omega (arith, div-le-self maxMessage (scheme (known (c .before)) .block)))
+    (λ c κs. search needs)
     (λ c.
     let e = c .before .before in
     let t = known e in
@@ -148,11 +147,11 @@ rebuild-spec =
     (λ c κs. search needs)
     (λ c.
     let h = c .before in
-    omega (arith, size-small (p (k h)) (scheme (k h)) (is (k h)) _ _ (N h) (h .blocks-held .ensures)))
+    omega (arith, size-small (p (k h)) (scheme (k h)) (is (k h)) _ _ (N h) (held-is h)))
     (λ c.
     let h = c .before in
     let list = st (k h) .args .parties .now in
-    omega (arith, all-small (p (k h)) (scheme (k h)) (is (k h)) _ _ (N h) (h .blocks-held .ensures) list refl (rising (ordered (enough h)))))
+    omega (arith, all-small (p (k h)) (scheme (k h)) (is (k h)) _ _ (N h) (held-is h) list refl (rising (ordered (enough h)))))
     (λ c.
     let h = c .before .before in
     let list = st (k h) .args .parties .now in
@@ -172,8 +171,8 @@ rebuild-spec =
     let e = lengths (o .before) in
     let h = held e in
     let t = k h in (
-      lends (p t) (scheme t) (is t) (st t .args .parties .now) (st t .args .shares .now) (N h) (rising (ordered (enough h))) (many (enough h)) (blocks-high (p t) (scheme t) (is t) _ _ (N h) (h .blocks-held .ensures)) (e .if4 .left),
-      (room-fits (p t) (scheme t) (is t) _ _ (N h) (h .blocks-held .ensures), o .if6 .left ∙ mul-comm (N h) (scheme t .rows)),
+      lends (p t) (scheme t) (is t) (st t .args .parties .now) (st t .args .shares .now) (N h) (rising (ordered (enough h))) (many (enough h)) (blocks-high (p t) (scheme t) (is t) _ _ (N h) (held-is h)) (e .if4 .left),
+      (room-fits (p t) (scheme t) (is t) _ _ (N h) (held-is h), o .if6 .left ∙ mul-comm (N h) (scheme t .rows)),
     ))
     (λ c. search needs)
     (λ c.
