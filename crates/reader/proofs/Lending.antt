@@ -5,7 +5,7 @@ use mathlib.Core.Path.{_≡_, refl, sym, ap, ap₂, _∙_}
 use mathlib.Core.Bool.{Bool, true, false, _||_}
 use mathlib.Core.Logic.{_≢_, _⊎_, ⊎-elim}
 use mathlib.Core.List.{List, [], _∷_, map}
-use Prim.Native.Nat.{ℕ, _+_, _-_, _*_, _/_, _%_, _≤_, _<_, zero-le}
+use Prim.Native.Nat.{ℕ, _+_, _-_, _*_, _/_, _%_, _≤_, _<_}
 use native.Mathlib.Nat.{le-of-eq, mul-le-mul, mul-le-mul-right}
 use native.Mathlib.Decide.{ℕ-discrete}
 use native.Mathlib.Omega.{arith}
@@ -33,8 +33,7 @@ use Rattle.interpolation.specs.Opening.{valueWeight}
 use Rattle.scheme.specs.declared.Scheme.{Scheme}
 use Rattle.scheme.specs.Facts as facts
 use Rattle.scheme.specs.Limits.{maxBlock, maxBlocks}
-use Rattle.scheme.specs.Readers.{readersRefused, Rising}
-use Rattle.scheme.proofs.Laws.{readers-rise, parties-distinct}
+use Rattle.scheme.proofs.Laws.{readers-rise, parties-distinct, parties-few}
 use Rattle.family.specs.Family.{shareOfBlocks}
 use Rattle.staircase.specs.Parameters.{Parameters, Party, parametersOf, block, rows, point}
 use Rattle.staircase.specs.Coefficients.{shareByte}
@@ -61,14 +60,6 @@ points-left p parties skip d h =
     (λ i b.
     getD-map (point p) core i 0 0 (rw long b)
     ∙ ap (point p) (getD-take d (without skip parties) i 0 b ∙ getD-without parties skip i))
-
--- numbers that rise to n are at most n
-rising-short : (below n : ℕ) (parties : List ℕ) → below ≤ n → Rising below n parties → below + length parties ≤ n
-rising-short below n [] h R = omega arith
-rising-short below n (x ∷ parties) h R = omega (arith, rising-short x n parties (R .1) (R .2))
-
-pub parties-few : (n : ℕ) (parties : List ℕ) → readersRefused n parties ≡ false → length parties ≤ n
-parties-few n parties passed = omega (arith, rising-short 0 n parties zero-le (readers-rise n parties passed))
 
 -- the share at a party's point is the party's share
 share-at-is : (s : Scheme) (ds : List ℕ) (S : facts.SchemeIs s (s .n) (s .r) (s .z) ds) (N : ℕ) (B K : List ℕ) → length B ≡ N * block (parametersOf s ds)
@@ -121,7 +112,7 @@ module _ {s : Scheme} {ds parties : List ℕ} {blocks skip : ℕ} {shares : List
   counts-some = A .some
 
   pub list-few : length parties ≤ 16
-  list-few = omega (arith, parties-few (s .n) parties (L .passed), A .sizes .parties-high)
+  list-few = parties-few (s .n) (s .r) (s .z) ds (L .scheme .passed) parties (L .passed)
 
   pub lost-few : s .r ≤ s .n
   lost-few = omega (arith, A .sizes .room)

@@ -17,16 +17,15 @@ use Rattle.scheme.specs.Limits.{maxBlock, maxBlocks, maxMessage}
 use Rattle.scheme.specs.Outcome.{Outcome, accepted, refused, firstOf}
 use Rattle.scheme.specs.Padding.{mostPadded, blocksHeld}
 use Rattle.scheme.specs.Readers.{readersRefused}
-use Rattle.scheme.proofs.Laws.{Way, refuses, answer-number, scheme-own, held-told, padded-count-few}
+use Rattle.scheme.proofs.Laws.{Way, refuses, answer-number, scheme-own, held-told, padded-count-few, parties-few}
 use Rattle.staircase.specs.Parameters.{Parameters, parametersOf, block, rows, shareBytes}
 use Rattle.rows.proofs.Scheme.{facts-of, rows-high}
 use Rattle.agreement.specs.Agreement.{agrees}
 use Rattle.reader.specs.declared.rebuilding.RebuildAnswer.{RebuildAnswer}
 use Rattle.reader.specs.declared.rebuilding.RebuildAnswer.the-variants.{Rebuilt, Disagreeing, Refused}
-use Rattle.reader.specs.Agreeing.{Lending, RoomFits, Rebuilds}
+use Rattle.reader.specs.Agreeing.{Lending, RoomFits, RebuildsLent}
 use Rattle.agreement.specs.Rebuild.{disagreeing, blocksLent, lentRefusal, rebuildAnswer, rebuildOutput}
 use Rattle.reader.specs.Rebuild.{RebuildCall}
-use Rattle.reader.proofs.Lending.{parties-few}
 use Rattle.reader.proofs.OpenerAnswers.{m-some, m-most}
 use Rattle.reader.proofs.PaddedAnswers.{held-small}
 
@@ -54,11 +53,8 @@ module _ (p : Parameters) (s : Scheme) (is : SchemeIs s (p .n) (p .r) (p .z) (p 
   lost-low = omega (arith, facts .sizes .room, is .n-is, is .r-is)
 
   -- the parties are at most 16, so the bytes of a block in all their shares are few
-  few-parties : (parties : List ℕ) → readersRefused (p .n) parties ≡ false → length parties ≤ side
-  few-parties parties passed = omega (arith, parties-few (p .n) parties passed, facts .sizes .parties-high, is .n-is)
-
   pub unit-few : (parties : List ℕ) → readersRefused (p .n) parties ≡ false → length parties * s .rows ≤ side * maxBlock
-  unit-few parties passed = mul-le-mul (few-parties parties passed) rows-few
+  unit-few parties passed = mul-le-mul (parties-few _ _ _ _ (is .passed) parties passed) rows-few
 
   -- the code's N, and what follows from it
   module _ (parties shares N : ℕ) (N-is : N ≡ blocksHeld (mostPadded (s .block)) (parties * s .rows) shares) where
@@ -89,7 +85,7 @@ module _ (p : Parameters) (s : Scheme) (is : SchemeIs s (p .n) (p .r) (p .z) (p 
 
     pub all-small : (list : List ℕ) → parties ≡ length list → readersRefused (p .n) list ≡ false → parties * (N * s .rows) ≤ side * (maxBlocks * maxBlock)
     all-small list e passed =
-        let few : parties ≤ side = rw e (few-parties list passed) in
+        let few : parties ≤ side = rw e (parties-few _ _ _ _ (is .passed) list passed) in
         mul-le-mul few size-small
 
   -- what is lent
@@ -110,7 +106,7 @@ module _ (p : Parameters) (s : Scheme) (is : SchemeIs s (p .n) (p .r) (p .z) (p 
   -- no refusal but 18
   pub ends : (parties shares : List ℕ) (wanted : ℕ) (held before : List ℕ) (N : ℕ) → N ≡ blocksLent p (length parties) (length shares)
       → lentRefusal p parties (length shares) wanted (length held) (length before) ≡ 0
-      → (a : RebuildAnswer) (after : List ℕ) → Rebuilds s (p .counts) parties N shares wanted held before a after
+      → (a : RebuildAnswer) (after : List ℕ) → RebuildsLent s (p .counts) parties N shares wanted held before a after
       → RebuildCall p parties shares wanted held before a after
   unfolding rebuildAnswer rebuildOutput
   ends parties shares wanted held before N N-is none (Rebuilt different) after R =

@@ -54,10 +54,10 @@ sameAt s ds parties blocks skip shares a =
 
 -- where no refusal but 18 may apply: they agree, and the answer is in how many bytes the held copy differs from the share that is written; or they do
 -- not, the party named is answered, and nothing is written
-abbrev pub Rebuilds : Scheme → List ℕ → List ℕ → ℕ → List ℕ → ℕ → List ℕ → List ℕ → RebuildAnswer → List ℕ → Type 0
-Rebuilds s ds parties blocks shares wanted held before (Rebuilt different) after =
+abbrev pub RebuildsLent : Scheme → List ℕ → List ℕ → ℕ → List ℕ → ℕ → List ℕ → List ℕ → RebuildAnswer → List ℕ → Type 0
+RebuildsLent s ds parties blocks shares wanted held before (Rebuilt different) after =
     (agrees (parametersOf s ds) parties blocks shares ≡ true) × (different ≡ differing held (rebuilt (parametersOf s ds) parties blocks shares wanted))
     × (after ≡ rebuilt (parametersOf s ds) parties blocks shares wanted)
-Rebuilds s ds parties blocks shares wanted held before (Disagreeing party) after =
+RebuildsLent s ds parties blocks shares wanted held before (Disagreeing party) after =
     (agrees (parametersOf s ds) parties blocks shares ≡ false) × (party ≡ named (parametersOf s ds) parties blocks shares) × (after ≡ before)
-Rebuilds s ds parties blocks shares wanted held before (Refused q) after = ⊥
+RebuildsLent s ds parties blocks shares wanted held before (Refused q) after = ⊥

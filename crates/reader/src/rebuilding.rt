@@ -134,7 +134,7 @@ fn rebuild_agreeing(
 ) -> RebuildAnswer
     requires lent { ⌜ agreeing.Lending s (now counts) (now parties) blocks (length (now parties)) (now shares) ⌝ }
     requires room { ⌜ agreeing.RoomFits s blocks × (length (now out) ≡ s .rows * blocks) ⌝ }
-    ensures { λ a. ⌜ agreeing.Rebuilds s (now (counts .entry)) (now (parties .entry)) blocks (now (shares .entry)) party (now (held .entry)) (now (out .entry)) a (now (out .exit)) ⌝ }
+    ensures { λ a. ⌜ agreeing.RebuildsLent s (now (counts .entry)) (now (parties .entry)) blocks (now (shares .entry)) party (now (held .entry)) (now (out .entry)) a (now (out .exit)) ⌝ }
 {
     if blocks * s.block <= SMALL {
         let mut work = [0u8; SMALL];
@@ -183,7 +183,7 @@ fn rebuild_in(
 ) -> RebuildAnswer
     requires lent { ⌜ agreeing.Lending s (now counts) (now parties) blocks (length (now parties)) (now shares) ⌝ }
     requires room { ⌜ (blocks * s .block ≤ length (now work)) × (s .rows * blocks ≤ length (now share)) × (length (now out) ≡ s .rows * blocks) ⌝ }
-    ensures { λ a. ⌜ agreeing.Rebuilds s (now (counts .entry)) (now (parties .entry)) blocks (now (shares .entry)) party (now (held .entry)) (now (out .entry)) a (now (out .exit)) ⌝ }
+    ensures { λ a. ⌜ agreeing.RebuildsLent s (now (counts .entry)) (now (parties .entry)) blocks (now (shares .entry)) party (now (held .entry)) (now (out .entry)) a (now (out .exit)) ⌝ }
 {
     let size = blocks * s.block;
     let part = s.rows * blocks;
@@ -216,7 +216,7 @@ fn rebuild_with(
 ) -> RebuildAnswer
     requires lent { ⌜ agreeing.Lending s (now counts) (now parties) blocks (length (now parties)) (now shares) ⌝ }
     requires room { ⌜ (length (now work) ≡ blocks * s .block) × (length (now share) ≡ s .rows * blocks) × (length (now out) ≡ s .rows * blocks) ⌝ }
-    ensures { λ a. ⌜ agreeing.Rebuilds s (now (counts .entry)) (now (parties .entry)) blocks (now (shares .entry)) party (now (held .entry)) (now (out .entry)) a (now (out .exit)) ⌝ }
+    ensures { λ a. ⌜ agreeing.RebuildsLent s (now (counts .entry)) (now (parties .entry)) blocks (now (shares .entry)) party (now (held .entry)) (now (out .entry)) a (now (out .exit)) ⌝ }
 {
     // No place: nothing is left out.
     let none = parties.len();

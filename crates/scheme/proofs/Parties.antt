@@ -1,11 +1,11 @@
--- Refusal 7: it does not apply exactly where the party numbers rise from 1 to n, and then they are distinct; and the test as the code makes it,
--- party by party.
+-- Refusal 7: it does not apply exactly where the party numbers rise from 1 to n, and then they are distinct, and few; and the test as the code makes
+-- it, party by party.
 -- Assumes nothing.
 use mathlib.Core.Path.{_≡_, refl}
 use mathlib.Core.Bool.{Bool, true, false, _||_, not, or-true}
 use mathlib.Core.Logic.{_≢_}
 use mathlib.Core.List.{List, [], _∷_}
-use Prim.Native.Nat.{ℕ, _+_, _≤_, _<_}
+use Prim.Native.Nat.{ℕ, _+_, _≤_, _<_, zero-le}
 use native.Mathlib.Numerals.{add-one}
 use native.Mathlib.Omega.{arith}
 use lib.Dec.{ltb, leb}
@@ -15,7 +15,10 @@ use borrow.Author.Tests.{ltb-true, leb-true, not-false, lt-ltb, le-ltb, le-leb, 
 use Rattle.lists.specs.Each.{Each, Distinct}
 use Rattle.lists.proofs.Each.{each-imp}
 use Rattle.lists.proofs.Tests.{both, neither}
+use Rattle.scheme.specs.Limits.{maxParties}
+use Rattle.scheme.specs.Check.{refusal}
 use Rattle.scheme.specs.Readers.{rises, within, readersRefused, Rising}
+use Rattle.scheme.proofs.SchemeFacts.{accepted}
 
 -- ---- the test and what it stands for
 
@@ -55,6 +58,16 @@ apart below n (s ∷ parties) R =
 
 pub parties-distinct : (n : ℕ) (parties : List ℕ) → Rising 0 n parties → Distinct parties × Each (λ s. (1 ≤ s) × (s ≤ n)) parties
 parties-distinct n parties R = apart 0 n parties R
+
+-- numbers that rise to n are at most n, and an accepted scheme has few parties
+rising-short : (below n : ℕ) (parties : List ℕ) → below ≤ n → Rising below n parties → below + length parties ≤ n
+rising-short below n [] h R = omega arith
+rising-short below n (s ∷ parties) h R = omega (arith, rising-short s n parties (R .1) (R .2))
+
+pub parties-few : (n r z : ℕ) (ds : List ℕ) → refusal n r z ds ≡ 0 → (parties : List ℕ) → readersRefused n parties ≡ false
+    → length parties ≤ maxParties
+parties-few n r z ds good parties passed =
+    omega (arith, rising-short 0 n parties zero-le (readers-rise n parties passed), accepted n r z ds good .sizes .parties-high)
 
 -- ---- the loop: the test of the parties from place i on, after one with the number `below`
 
