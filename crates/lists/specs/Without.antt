@@ -12,7 +12,7 @@ without i [] = []
 without zero (x ∷ xs) = xs
 without (suc i) (x ∷ xs) = x ∷ without i xs
 
--- the list without its piece number i of w entries; the whole list where there is none
+-- the list without its piece number i of w entries, or without what it has of that piece where it ends inside it; the whole list where it ends before
 unfoldable pub withoutPiece : ℕ → ℕ → List ℕ → List ℕ
 withoutPiece w i l = take (i * w) l ++ drop (i * w + w) l
 

@@ -1,7 +1,7 @@
 // Whether whole shares agree, and a party's share from those that do (document 02, h). From the first n - r of the shares the
 // blocks are decoded, and by them the share of any party is filled in; the shares agree where this gives every other party
-// its own. One share can be left out of all of it, which finds the one that lies. No byte of a share decides a branch or an
-// index: only whether two whole shares differ does.
+// its own. One share can be left out of all of it, which finds the one without which the others agree. No byte of a share
+// decides a branch or an index: only whether two whole shares differ does.
 ghost use mathlib.Core.Path.{_≡_};
 ghost use mathlib.Core.Logic.{_⊎_};
 ghost use mathlib.Core.List.{map};

@@ -64,10 +64,12 @@ pub fn rebuild(
     let most = padding::most_blocks(s.block);
     let blocks = padding::blocks_held(most, many * s.rows, shares.len());
     let size = blocks * s.rows;
+    // What the next tests ask, worked out before them, so that they stand in the table's order, side by side.
+    let unlike = held_refused(held.len(), size);
     if shares.len() != many * size {
         return RebuildAnswer::Refused(9);
     }
-    if held_refused(held.len(), size) {
+    if unlike {
         return RebuildAnswer::Refused(9);
     }
     if out.len() != size {

@@ -94,21 +94,19 @@ module _ (c : tie.After-blocks-held) where
       o
   passed way = pass (is k .passed) (pass-false 7 (rising (ordered enough)) (pass-false 7 (wanted enough) (pass-false 17 (le-ltb _ _ (many enough)) way)))
 
--- past the first of refusal 9
+-- what is tested for the second of refusal 9
+copy-test : (c : tie.After-held-refused)
+    → let h = c .before .before in
+    heldRefused (length (st (k h) .args .held .now)) (shareBytes (p (k h)) (lent h)) ≡ c .held-refused .result
+copy-test c = ap (heldRefused _) (sym (size (c .before .before))) ∙ sym (c .held-refused .ensures)
+
+-- past the first
 module _ (c : tie.Else4) where
   abbrev held : tie.After-blocks-held
-  held = c .before .before
+  held = c .before .before .before
 
   long : length (st (k held) .args .shares .now) ≡ length (st (k held) .args .parties .now) * shareBytes (p (k held)) (lent held)
   long = c .if4 .left ∙ ap (λ (x : ℕ). length (st (k held) .args .parties .now) * x) (size held)
-
--- past the second
-module _ (c : tie.Else5) where
-  abbrev lengths : tie.Else4
-  lengths = c .before .before
-
-  copy : heldRefused (length (st (k (held lengths)) .args .held .now)) (shareBytes (p (k (held lengths))) (lent (held lengths))) ≡ false
-  copy = ap (heldRefused _) (sym (size (held lengths))) ∙ sym (c .before .held-refused .ensures) ∙ c .if5 .left
 
 pub rebuild-spec : {M : Type 1} → statement M
 unfolding lentRefusal rebuildAnswer rebuildOutput
@@ -148,27 +146,26 @@ rebuild-spec =
     (λ c.
     let h = c .before in
     omega (arith, size-small (p (k h)) (scheme (k h)) (is (k h)) _ _ (N h) (held-is h)))
-    (λ c.
-    let h = c .before in
-    let list = st (k h) .args .parties .now in
-    omega (arith, all-small (p (k h)) (scheme (k h)) (is (k h)) _ _ (N h) (held-is h) list refl (rising (ordered (enough h)))))
+    (λ c κs. search needs)
     (λ c.
     let h = c .before .before in
     let list = st (k h) .args .parties .now in
-    turns-away _ _ (passed h (stop-other (λ q. c .if4 .taken (q ∙ ap (λ (x : ℕ). length list * x) (sym (size h)))))))
-    (λ c κs. search needs)
+    omega (arith, all-small (p (k h)) (scheme (k h)) (is (k h)) _ _ (N h) (held-is h) list refl (rising (ordered (enough h)))))
     (λ c.
-    let f = c .before in
-    let h = held (f .before) in
-    let bad = ap (heldRefused _) (sym (size h)) ∙ sym (f .held-refused .ensures) ∙ c .if5 .taken in
-    turns-away _ _ (passed h (pass-same 9 (long (f .before)) (stop-true bad))))
+    let h = c .before .before .before in
+    let list = st (k h) .args .parties .now in
+    turns-away _ _ (passed h (stop-other (λ q. c .if4 .taken (q ∙ ap (λ (x : ℕ). length list * x) (sym (size h)))))))
     (λ c.
     let e = c .before in
-    let h = held (lengths e) in
-    turns-away _ _ (passed h (pass-same 9 (long (lengths e)) (pass-false 9 (copy e) (stop-other (λ q. c .if6 .taken (q ∙ sym (size h))))))))
+    turns-away _ _ (passed (held e) (pass-same 9 (long e) (stop-true (copy-test (e .before) ∙ c .if5 .taken)))))
+    (λ c.
+    let f = c .before in
+    let e = f .before in
+    let h = held e in
+    turns-away _ _ (passed h (pass-same 9 (long e) (pass-false 9 (copy-test (e .before) ∙ f .if5 .left) (stop-other (λ q. c .if6 .taken (q ∙ sym (size h))))))))
     (λ c κs.
     let o = c .before in
-    let e = lengths (o .before) in
+    let e = o .before .before in
     let h = held e in
     let t = k h in (
       lends (p t) (scheme t) (is t) (st t .args .parties .now) (st t .args .shares .now) (N h) (rising (ordered (enough h))) (many (enough h)) (blocks-high (p t) (scheme t) (is t) _ _ (N h) (held-is h)) (e .if4 .left),
@@ -178,8 +175,9 @@ rebuild-spec =
     (λ c.
     let u = c .before .before in
     let o = u .before .before in
-    let e = o .before in
-    let h = held (lengths e) in
+    let f = o .before in
+    let e = f .before in
+    let h = held e in
     let t = k h in
-    let none = numbered (passed h (pass-same 9 (long (lengths e)) (pass-false 9 (copy e) (pass-same 10 (o .if6 .left ∙ size h) done)))) in
+    let none = numbered (passed h (pass-same 9 (long e) (pass-false 9 (copy-test (e .before) ∙ f .if5 .left) (pass-same 10 (o .if6 .left ∙ size h) done)))) in
     ends (p t) (scheme t) (is t) (st t .args .parties .now) (st t .args .shares .now) (st t .args .party) (st t .args .held .now) (st t .args .out .now) (N h) (N-is h) none (u .rebuild-agreeing .result) _ (u .rebuild-agreeing .ensures)))
