@@ -45,14 +45,14 @@ module _ {s : Scheme} {ds : List ℕ} {d : ℕ} (C : Counted s ds d) where
       omega (arith, found .2, A .high (found .0) (found .1), A .sizes .parties-high)
 
   -- P is at most the block's bytes, and the bytes of a prefix are few
-  pub rows-small : (P : ℕ) → P ≡ sentRows s d → P ≤ maxBlock
-  rows-small P e = rows-few (s .block) (s .z) d P (A .limit) e
+  pub rows-small : sentRows s d ≤ maxBlock
+  rows-small = rows-few (s .block) (s .z) d (sentRows s d) (A .limit) refl
 
 pub prefix-few : {s : Scheme} {ds : List ℕ} {d blocks : ℕ} {prefixes : List ℕ} → Input s ds d blocks prefixes
-    → (P : ℕ) → P ≡ sentRows s d → P * blocks ≤ maxBlock * maxBlocks
-prefix-few I P e = mul-le-mul (rows-small (I .counted) P e) (I .blocks-high)
+    → sentRows s d * blocks ≤ maxBlock * maxBlocks
+prefix-few I = mul-le-mul (rows-small (I .counted)) (I .blocks-high)
 
 -- and so are those of all prefixes
 pub sent-few : {s : Scheme} {ds : List ℕ} {d blocks : ℕ} {prefixes : List ℕ} → Input s ds d blocks prefixes
     → sentBytes s d blocks ≤ side * (maxBlock * maxBlocks)
-sent-few I = mul-le-mul (count-high (I .counted)) (prefix-few I _ refl)
+sent-few I = mul-le-mul (count-high (I .counted)) (prefix-few I)

@@ -59,11 +59,11 @@ module _ (d top : ℕ) (points : List ℕ) (weights : List (List ℕ)) (W : Weig
 
 -- ---- the row of turn u, of two strings of blocks
 
-module _ {s : Scheme} {ds : List ℕ} {d skip blocks : ℕ} {points prefixes prefixes′ : List ℕ} {P u j : ℕ}
-    (R : TurnAt s ds d skip blocks prefixes P u j) (R′ : TurnAt s ds d skip blocks prefixes′ P u j)
+module _ {s : Scheme} {ds : List ℕ} {d skip blocks : ℕ} {points prefixes prefixes′ : List ℕ} {u j : ℕ}
+    (R : TurnAt s ds d skip blocks prefixes u j) (R′ : TurnAt s ds d skip blocks prefixes′ u j)
     {places : List ℕ} (O : RowOrigins (s .block) (s .z) ds j (top (row-at R)) places) {weights : List (List ℕ)} (W : WeightsOf points d (getD ds 0 0) weights)
     {B K B′ K′ : List ℕ} (X : Sent s ds d blocks points prefixes B K) (X′ : Sent s ds d blocks points prefixes′ B′ K′)
-    (same : (t a : ℕ) → t < blocks → a < d → getD prefixes (a * (P * blocks) + (j * blocks + t)) 0 ≡ getD prefixes′ (a * (P * blocks) + (j * blocks + t)) 0)
+    (same : (t a : ℕ) → t < blocks → a < d → getD prefixes (a * (sentRows s d * blocks) + (j * blocks + t)) 0 ≡ getD prefixes′ (a * (sentRows s d * blocks) + (j * blocks + t)) 0)
     (F : Found s ds d blocks u B′ B) where
   row-of : RowOf (sizes (row-at R)) (top (row-at R)) (j * blocks) places points prefixes B
   row-of = row-values (row-at R) O B K points X
@@ -103,8 +103,8 @@ module _ {s : Scheme} {ds : List ℕ} {d blocks : ℕ} {points prefixes prefixes
   turns-same zero h same = found-none s ds d blocks B′ B
   turns-same (suc u) h same =
       let j : ℕ = rowInTurn (s .block) (s .z) ds d u in
-      let R : TurnAt s ds d d blocks prefixes (sentRows s d) u j = record { input = J; P-is = refl; here = h; row-is = refl } in
-      let R′ : TurnAt s ds d d blocks prefixes′ (sentRows s d) u j = record { input = J′; P-is = refl; here = h; row-is = refl } in
+      let R : TurnAt s ds d d blocks prefixes u j = record { input = J; here = h; row-is = refl } in
+      let R′ : TurnAt s ds d d blocks prefixes′ u j = record { input = J′; here = h; row-is = refl } in
       rw add-one at
       (turn-same R R′ (row-places (row-at R) (replicate side 0) (length-replicate {A = ℕ} side 0)) W X X′ (λ t a ht ha. same u t a (omega arith) ht ha)
       (turns-same u (omega arith) (λ v t a hv ht ha. same v t a (omega arith) ht ha)))

@@ -1,6 +1,6 @@
 -- A row by its number: what the row's loops are told of it, in the code's numbers, and that the blocks which were sent have it.
 -- Assumes nothing.
-use mathlib.Core.Path.{_≡_, sym, ap, _∙_}
+use mathlib.Core.Path.{_≡_, _∙_}
 use mathlib.Core.List.{List}
 use Prim.Native.Nat.{ℕ, _*_, _<_, zero-le}
 use native.Mathlib.Nat.{le-of-lt}
@@ -23,16 +23,15 @@ use Rattle.rows.proofs.Scheme.{row-group, row-count-high}
 use Rattle.rows.proofs.Laws.{row-origins}
 use Rattle.order.proofs.ReadingOrder.{order-of}
 use Rattle.reader.specs.declared.decoding.Sizes.{Sizes}
-use Rattle.reader.specs.Decoding.{SizesFit, RowFits, WeightsOf, RowOf, sentRows, Counted, Input, Sent}
+use Rattle.reader.specs.Decoding.{SizesFit, RowFits, WeightsOf, RowOf, sentRows, sizesOf, readBy, readFrom, Counted, Input, Sent}
 use Rattle.reader.proofs.CountedScheme.{A, count-in, count-high}
 
--- row j, of the P rows of d; the prefixes are those that are read, without the one at place `skip`
-pub record RowAt (s : Scheme) (ds : List ℕ) (d skip blocks : ℕ) (prefixes : List ℕ) (P j : ℕ) : Type 0 where
+-- row j, of the rows of d; the prefixes are those that are read, without the one at place `skip`
+pub record RowAt (s : Scheme) (ds : List ℕ) (d skip blocks : ℕ) (prefixes : List ℕ) (j : ℕ) : Type 0 where
   pub input : Input s ds d blocks prefixes
-  pub P-is : P ≡ sentRows s d
   pub inside : j < sentRows s d
 
-module _ {s : Scheme} {ds : List ℕ} {d skip blocks : ℕ} {prefixes : List ℕ} {P j : ℕ} (R : RowAt s ds d skip blocks prefixes P j) where
+module _ {s : Scheme} {ds : List ℕ} {d skip blocks : ℕ} {prefixes : List ℕ} {j : ℕ} (R : RowAt s ds d skip blocks prefixes j) where
   C : Counted s ds d
   C = R .input .counted
 
@@ -49,7 +48,7 @@ module _ {s : Scheme} {ds : List ℕ} {d skip blocks : ℕ} {prefixes : List ℕ
 
   -- the sizes of what is read
   abbrev pub sizes : Sizes
-  sizes = record { z = s .z; d = d; block = s .block; blocks = blocks; prefix = P * blocks; skip = skip }
+  sizes = sizesOf s d skip blocks
 
   pub sizes-fit : SizesFit sizes prefixes
   sizes-fit =
@@ -58,7 +57,7 @@ module _ {s : Scheme} {ds : List ℕ} {d skip blocks : ℕ} {prefixes : List ℕ
         d-high = count-high C;
         block-high = A C .limit;
         blocks-high = R .input .blocks-high;
-        prefixes-long = R .input .prefixes-long ∙ ap (λ (x : ℕ). d * (x * blocks)) (sym (R .P-is));
+        prefixes-long = R .input .prefixes-long;
       }
 
   -- the weights for the largest count are also those for the row's
@@ -81,7 +80,7 @@ module _ {s : Scheme} {ds : List ℕ} {d skip blocks : ℕ} {prefixes : List ℕ
         record {
           top-low = order-of (count-in C) .wide j (R .inside);
           top-high = row-count-high s ds (C .scheme) j row-below;
-          inside = row-room j P blocks (omega (arith, R .inside, R .P-is));
+          inside = row-room j (sentRows s d) blocks (R .inside);
           places-low = O .below;
         }
 
@@ -96,5 +95,12 @@ module _ {s : Scheme} {ds : List ℕ} {d skip blocks : ℕ} {prefixes : List ℕ
               each-tabulate Byte top _
               (λ e l. coefficient-at-byte (s .block) (s .rows) (s .z) ds B K (X .blocks-are .1) (X .keys-are .1) t j e);
           message = λ t e h low high. getD-tabulate {A = ℕ} top _ e 0 high ∙ rw (le-ltb e (s .z) low, O .is e low high);
-          sent = λ t a h l. rw (R .P-is) (X .rows j t a (R .inside) h l);
+          sent = λ t a h l. X .rows j t a (R .inside) h l;
         }
+
+-- the same in the code's sizes, and its number of coefficients
+module _ {s : Scheme} {ds : List ℕ} {d skip blocks : ℕ} (lent : List ℕ) {j : ℕ} (R : RowAt s ds d skip blocks (readFrom s d blocks skip lent) j)
+    {places : List ℕ} (O : RowOrigins (s .block) (s .z) ds j (top R) places) {given : Sizes} (given-are : given ≡ sizesOf s d skip blocks)
+    {n : ℕ} (n-is : n ≡ top R) where
+  pub row-told : SizesFit given (readBy given lent) × RowFits given n (j * blocks) places
+  row-told = rw (given-are, n-is) (sizes-fit R, row-fits R O)

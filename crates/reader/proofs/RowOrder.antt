@@ -17,9 +17,10 @@ use Rattle.rows.specs.Sources.{RowOrigins}
 use Rattle.order.specs.ReadingOrder.{rowInTurn}
 use Rattle.order.specs.RowsTaken.{Reached}
 use Rattle.order.proofs.ReadingOrder.{order-of, turnOf, in-turn, row-in-turn-below, later-sooner}
-use Rattle.reader.specs.Decoding.{HasPlaces, Solved, Solves, sentRows, Counted, Input, EachSent, Found}
+use Rattle.reader.specs.declared.decoding.Sizes.{Sizes}
+use Rattle.reader.specs.Decoding.{readBy, HasPlaces, Solved, Solves, sentRows, sizesOf, readFrom, Counted, Input, EachSent, Found}
 use Rattle.reader.proofs.CountedScheme.{count-in}
-use Rattle.reader.proofs.RowFacts.{RowAt, top, sizes, row-weights, row-values}
+use Rattle.reader.proofs.RowFacts.{RowAt, top, row-weights, row-values}
 
 -- ---- the bytes counted: those of d parties and `blocks` blocks in each turn passed
 
@@ -34,21 +35,20 @@ counted-more d blocks used u P most h e fits =
     let within : u + 1 ≤ P = omega arith in
     (omega arith, omega (arith, mul-le-mul-left d (mul-le-mul-right blocks within)))
 
--- ---- the row j of turn u, in the code's numbers: of the P rows of d
+-- ---- the row j of turn u
 
-pub record TurnAt (s : Scheme) (ds : List ℕ) (d skip blocks : ℕ) (prefixes : List ℕ) (P u j : ℕ) : Type 0 where
+pub record TurnAt (s : Scheme) (ds : List ℕ) (d skip blocks : ℕ) (prefixes : List ℕ) (u j : ℕ) : Type 0 where
   pub input : Input s ds d blocks prefixes
-  pub P-is : P ≡ sentRows s d
   pub here : u < sentRows s d
   pub row-is : j ≡ rowInTurn (s .block) (s .z) ds d u
 
-module _ {s : Scheme} {ds : List ℕ} {d skip blocks : ℕ} {prefixes : List ℕ} {P u j : ℕ} (R : TurnAt s ds d skip blocks prefixes P u j) where
+module _ {s : Scheme} {ds : List ℕ} {d skip blocks : ℕ} {prefixes : List ℕ} {u j : ℕ} (R : TurnAt s ds d skip blocks prefixes u j) where
   C : Counted s ds d
   C = R .input .counted
 
   -- the row by its number
-  pub row-at : RowAt s ds d skip blocks prefixes P j
-  row-at = record { input = R .input; P-is = R .P-is; inside = rw (R .row-is) (row-in-turn-below (count-in C) u (R .here)) }
+  pub row-at : RowAt s ds d skip blocks prefixes j
+  row-at = record { input = R .input; inside = rw (R .row-is) (row-in-turn-below (count-in C) u (R .here)) }
 
   module _ {places : List ℕ} (O : RowOrigins (s .block) (s .z) ds j (top row-at) places) where
     module _ (B w : List ℕ) (F : Found s ds d blocks u B w) where
@@ -80,10 +80,15 @@ module _ {s : Scheme} {ds : List ℕ} {d skip blocks : ℕ} {prefixes : List ℕ
               = ⊎-elim (λ (k : e < d). X .new t e zero-le ht low k) (λ (k : d ≤ e). X .still _ (row-known t e zero-le ht k within)) (lt-or-le e d) in
               rw same at v
 
-    -- the row's loop, for every B that has these prefixes
-    pub row-done : (w w′ : List ℕ) (weights : List (List ℕ)) → Solves (sizes row-at) (top row-at) (j * blocks) places weights prefixes 0 blocks w w′
-        → EachSent s ds d blocks weights prefixes (λ B. Found s ds d blocks u B w → Found s ds d blocks (u + 1) B w′)
-    row-done w w′ weights X B K points W Y F = row-found B w F w′ (X B points (row-weights row-at W) (row-values row-at O B K points Y) (row-known B w F))
+-- the row's loop, in the code's sizes and for every B that has these prefixes
+module _ {s : Scheme} {ds : List ℕ} {d skip blocks : ℕ} (lent : List ℕ) {u j : ℕ} (R : TurnAt s ds d skip blocks (readFrom s d blocks skip lent) u j)
+    {places : List ℕ} (O : RowOrigins (s .block) (s .z) ds j (top (row-at R)) places) {sizes : Sizes} (sizes-are : sizes ≡ sizesOf s d skip blocks)
+    {n : ℕ} (n-is : n ≡ top (row-at R)) where
+  pub row-done : (w w′ : List ℕ) (weights : List (List ℕ)) → Solves sizes n (j * blocks) places weights (readBy sizes lent) 0 (sizes .blocks) w w′
+      → EachSent s ds d blocks weights (readFrom s d blocks skip lent) (λ B. Found s ds d blocks u B w → Found s ds d blocks (u + 1) B w′)
+  row-done w w′ weights X B K points W Y F =
+      row-found R O B w F w′
+      ((rw (sizes-are, n-is) at X) B points (row-weights (row-at R) W) (row-values (row-at R) O B K points Y) (row-known R O B w F))
 
 -- no turns are passed: nothing has to be found
 pub found-none : (s : Scheme) (ds : List ℕ) (d blocks : ℕ) (B w : List ℕ) → Found s ds d blocks 0 B w

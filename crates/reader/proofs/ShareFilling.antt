@@ -14,9 +14,10 @@ use Rattle.interpolation.specs.Polynomial.{eval}
 use Rattle.scheme.specs.declared.Scheme.{Scheme}
 use Rattle.staircase.specs.Coefficients.{shareByte}
 use Rattle.rows.specs.Sources.{RowOrigins}
-use Rattle.reader.specs.Decoding.{WeightsOf, Sent}
+use Rattle.reader.specs.declared.decoding.Sizes.{Sizes}
+use Rattle.reader.specs.Decoding.{WeightsOf, readBy, sizesOf, readFrom, Sent}
 use Rattle.reader.specs.Filling.{FirstColumn, ChosenFor, RowFilled, FillsRow, FillsShare}
-use Rattle.reader.proofs.RowFacts.{RowAt, top, sizes, row-weights, row-values}
+use Rattle.reader.proofs.RowFacts.{RowAt, top, row-weights, row-values}
 
 -- the output has the bytes of the share in the first n rows, for the blocks and keys that have these prefixes, where the buffer has the blocks
 abbrev pub FillsRows : Scheme → List ℕ → ℕ → ℕ → List ℕ → List ℕ → List ℕ → ℕ → List ℕ → Type 0
@@ -29,18 +30,19 @@ pub rows-none : (s : Scheme) (ds : List ℕ) (d blocks : ℕ) (chosen prefixes w
 rows-none s ds d blocks chosen prefixes work out B K points weights x W C X same i h = absurd (omega (arith, zero-mul blocks))
 
 -- row j of the share
-module _ {s : Scheme} {ds : List ℕ} {d skip blocks : ℕ} {prefixes : List ℕ} {P j : ℕ} (R : RowAt s ds d skip blocks prefixes P j) {places : List ℕ}
-    (O : RowOrigins (s .block) (s .z) ds j (top R) places) where
-  value-there : (B K points : List ℕ) (X : Sent s ds d blocks points prefixes B K) (x t : ℕ) → t < blocks
+module _ {s : Scheme} {ds : List ℕ} {d skip blocks : ℕ} (lent : List ℕ) {j : ℕ} (R : RowAt s ds d skip blocks (readFrom s d blocks skip lent) j)
+    {places : List ℕ} (O : RowOrigins (s .block) (s .z) ds j (top R) places) where
+  value-there : (B K points : List ℕ) (X : Sent s ds d blocks points (readFrom s d blocks skip lent) B K) (x t : ℕ) → t < blocks
       → eval x (row-values R O B K points X .row t) ≡ shareByte (s .block) (s .rows) (s .z) ds B K blocks x (j * blocks + t)
   unfolding shareByte row-values
   value-there B K points X x t h = rw (row-of j t blocks h, place-of j t blocks h)
 
-  -- its values are written after those of the rows before it
-  pub rows-more : (chosen : List ℕ) (table : List (List ℕ)) (work o o′ : List ℕ) → FirstColumn chosen table
-      → FillsRow (sizes R) (top R) (j * blocks) places table prefixes work blocks o o′
-      → FillsRows s ds d blocks chosen prefixes work j o → FillsRows s ds d blocks chosen prefixes work (j + 1) o′
-  rows-more chosen table work o o′ T F before B K points weights x W C X same i h =
+  -- its values are written after those of the rows before it, in the code's sizes
+  pub rows-more : {sizes : Sizes} → sizes ≡ sizesOf s d skip blocks → {n : ℕ} → n ≡ top R
+      → (chosen : List ℕ) (table : List (List ℕ)) (work o o′ : List ℕ) → FirstColumn chosen table
+      → FillsRow sizes n (j * blocks) places table (readBy sizes lent) work (sizes .blocks) o o′
+      → FillsRows s ds d blocks chosen (readFrom s d blocks skip lent) work j o → FillsRows s ds d blocks chosen (readFrom s d blocks skip lent) work (j + 1) o′
+  rows-more sizes-are n-is chosen table work o o′ T F before B K points weights x W C X same i h =
       ⊎-elim (λ (l : i < j * blocks). filled .before-q i l ∙ before B K points weights x W C X same i l)
       (λ (l : j * blocks ≤ i).
       let at : j * blocks + (i - j * blocks) ≡ i = omega arith in
@@ -50,7 +52,7 @@ module _ {s : Scheme} {ds : List ℕ} {d skip blocks : ℕ} {prefixes : List ℕ
     where
       filled : RowFilled x (j * blocks) blocks (row-values R O B K points X .row) o o′
       filled =
-          F B points chosen weights x (row-weights R W) C T (row-values R O B K points X)
+          (rw (sizes-are, n-is) at F) B points chosen weights x (row-weights R W) C T (row-values R O B K points X)
           (λ t e _ _ _ _. ap (λ (l : List ℕ). getD l (t * s .block + getD places e 0) 0) same)
 
 -- all rows

@@ -20,15 +20,6 @@ module _ {s : Scheme} {ds : List ℕ} {d blocks : ℕ} {prefixes : List ℕ} (I 
   pub sent-whole : {points B K : List ℕ} → Sent s ds d blocks points prefixes B K → Sent s ds d blocks points (readFrom s d blocks d prefixes) B K
   sent-whole X = rw (without-none (sentRows s d * blocks) d prefixes (I .prefixes-long)) X
 
--- the same prefixes in the code's number of rows
-module _ {s : Scheme} {ds : List ℕ} {d blocks P : ℕ} (skip : ℕ) (prefixes : List ℕ) (e : P ≡ sentRows s d) where
-  pub input-at : Input s ds d blocks (readFrom s d blocks skip prefixes) → Input s ds d blocks (withoutPiece (P * blocks) skip prefixes)
-  input-at I = rw e I
-
-  pub sent-at : {points B K : List ℕ} → Sent s ds d blocks points (readFrom s d blocks skip prefixes) B K
-      → Sent s ds d blocks points (withoutPiece (P * blocks) skip prefixes) B K
-  sent-at X = rw e X
-
 -- the bytes from place q on, of the prefix that is read as number a
 pub lent-at : (w skip : ℕ) (prefixes : List ℕ) (a q many place : ℕ) (y : List ℕ) → place ≡ skipped skip a → q + many ≤ w
     → y ≡ take (place * w + q + many - (place * w + q)) (drop (place * w + q) prefixes)

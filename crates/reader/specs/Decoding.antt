@@ -132,6 +132,10 @@ sentRows s d = rowsOfCount (s .block) (s .z) d
 abbrev pub sentBytes : Scheme → ℕ → ℕ → ℕ
 sentBytes s d blocks = d * (sentRows s d * blocks)
 
+-- the sizes of d prefixes where the one at place `skip` is passed over
+abbrev pub sizesOf : Scheme → ℕ → ℕ → ℕ → Sizes
+sizesOf s d skip blocks = record { z = s .z; d = d; block = s .block; blocks = blocks; prefix = sentRows s d * blocks; skip = skip }
+
 -- the prefixes that are read, without the one at place `skip`
 abbrev pub readFrom : Scheme → ℕ → ℕ → ℕ → List ℕ → List ℕ
 readFrom s d blocks skip prefixes = withoutPiece (sentRows s d * blocks) skip prefixes

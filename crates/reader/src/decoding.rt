@@ -65,6 +65,21 @@ pub(crate) struct Sizes {
     pub(crate) skip: usize,
 }
 
+// Those of d prefixes of N blocks.
+pub(crate) fn sizes_of(s: Scheme, d: usize, skip: usize, blocks: usize) -> Sizes
+    requires { ⌜ decoding.sentRows s d * blocks ≤ decoding.maxUsize ⌝ }
+    ensures { λ sizes. ⌜ sizes ≡ decoding.sizesOf s d skip blocks ⌝ }
+{
+    Sizes {
+        z: s.z as usize,
+        d,
+        block: s.block,
+        blocks,
+        prefix: scheme::rows_of_count(s.block, s.z, d) * blocks,
+        skip,
+    }
+}
+
 // The place of the prefix that is read as number a where the one at place `skip` is passed over.
 pub(crate) fn place_of(skip: usize, a: usize) -> usize
     requires { ⌜ a < side ⌝ }
@@ -228,14 +243,7 @@ pub(crate) fn decode(
     ensures counted { λ used. ⌜ used ≡ d * (many * blocks) ⌝ }
     ensures found { λ _. ⌜ decoding.EachSent s (now (counts .entry)) d blocks weights (decoding.readFrom s d blocks skip (now (prefixes .entry))) (λ B. decoding.Found s (now (counts .entry)) d blocks many B (now (work .exit))) ⌝ }
 {
-    let sizes = Sizes {
-        z: s.z as usize,
-        d,
-        block: s.block,
-        blocks,
-        prefix: scheme::rows_of_count(s.block, s.z, d) * blocks,
-        skip,
-    };
+    let sizes = sizes_of(s, d, skip, blocks);
     let groups = order::group_number(counts, d);
     let mut used = 0;
     let mut turn = 0;

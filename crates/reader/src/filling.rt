@@ -11,6 +11,7 @@ ghost use Rattle.reader.specs.Filling.{FirstColumn, FillsRow, FillsShare
 use crate::decoding::Sizes;
 use crate::decoding::known;
 use crate::decoding::load_parties;
+use crate::decoding::sizes_of;
 use crate::decoding::solve_batch;
 use columns::FLAT;
 use interpolation::SIDE;
@@ -94,14 +95,7 @@ pub(crate) fn fill_share(
     ensures { λ _. ⌜ FillsShare s (now (counts .entry)) d blocks (now (chosen .entry)) (decoding.readFrom s d blocks skip (now (prefixes .entry))) (now (work .entry)) (now (out .exit)) ⌝ }
 {
     let rows = s.rows;
-    let sizes = Sizes {
-        z: s.z as usize,
-        d,
-        block: s.block,
-        blocks,
-        prefix: scheme::rows_of_count(s.block, s.z, d) * blocks,
-        skip,
-    };
+    let sizes = sizes_of(s, d, skip, blocks);
     let weights = in_first_column(chosen);
     let mut j = 0;
     while j < rows {

@@ -7,14 +7,13 @@ use Prim.Native.Nat.{ℕ, _+_, _-_, _*_, _≤_}
 use native.Mathlib.Omega.{arith}
 use lib.ListN.{length, replicate, length-replicate}
 use borrow.Author.Needs.{needs}
-use Rattle.lists.specs.Without.{withoutPiece}
 use Rattle.interpolation.specs.Interpolation.{side}
 use Rattle.rows.specs.Sources.{RowOrigins}
 use Rattle.order.proofs.ReadingOrder.{code-turn}
-use Rattle.reader.specs.Decoding.{maxUsize, sentRows, readFrom, EachSent, Found}
+use Rattle.reader.specs.declared.decoding.Sizes.{Sizes}
+use Rattle.reader.specs.Decoding.{maxUsize, sentRows, sizesOf, readFrom, EachSent, Found}
 use Rattle.reader.proofs.CountedScheme.{prefix-few, sent-few}
-use Rattle.reader.proofs.Skips.{input-at, sent-at}
-use Rattle.reader.proofs.RowFacts.{top, row-places, sizes-fit, row-fits}
+use Rattle.reader.proofs.RowFacts.{top, row-places, row-fits, row-told}
 use Rattle.reader.proofs.RowOrder.{counted-none, counted-more, TurnAt, row-at, row-done, found-none}
 use Rattle.reader.proofs.decoding.decode.Statement.{statement}
 use Rattle.reader.proofs.decoding.decode.Tie as tie
@@ -28,7 +27,7 @@ abbrev μ-loop : tie.MeasureT-loop
 μ-loop s counts d skip blocks many weights prefixes work₀ sizes groups used₀ turn₀ work used turn = many - turn
 
 abbrev start : tie.After-group-number Inv-loop μ-loop → tie.Start Inv-loop μ-loop
-start c = c .before .before .before .before .before .before
+start c = c .before .before .before .before .before
 
 -- the row whose turn it is
 module _ (c : tie.After-row-in-turn Inv-loop μ-loop) where
@@ -41,28 +40,29 @@ module _ (c : tie.After-row-in-turn Inv-loop μ-loop) where
   abbrev st : tie.Start Inv-loop μ-loop
   st = start g
 
-  abbrev P : ℕ
-  P = g .before .rows-of-count .result
+  abbrev sizes : Sizes
+  sizes = g .before .sizes-of .result
 
-  P-is : _≡_ {A = ℕ} P (sentRows (st .args .s) (st .args .d))
-  P-is = g .before .rows-of-count .ensures
+  sizes-are : sizes ≡ sizesOf (st .args .s) (st .args .d) (st .args .skip) (st .args .blocks)
+  sizes-are = g .before .sizes-of .ensures
 
   row : TurnAt (st .args .s) (st .args .counts .now) (st .args .d) (st .args .skip) (st .args .blocks)
-      (withoutPiece (P * st .args .blocks) (st .args .skip) (st .args .prefixes .now)) P (i .before .loop .turn) (c .row-in-turn .result)
+      (readFrom (st .args .s) (st .args .d) (st .args .blocks) (st .args .skip) (st .args .prefixes .now)) (i .before .loop .turn) (c .row-in-turn .result)
   row =
       record {
-        input = input-at (st .args .skip) (st .args .prefixes .now) P-is (st .pre .0);
-        P-is = P-is;
+        input = st .pre .0;
         here = omega (arith, i .loop-test .taken, st .pre .1);
         row-is = code-turn _ _ _ _ _ _ _ (g .group-number .ensures) (c .row-in-turn .ensures);
       }
 
   -- the count after it
-  counted : (i .before .loop .used + st .args .d * st .args .blocks ≡ st .args .d * ((i .before .loop .turn + 1) * st .args .blocks))
-      × (i .before .loop .used + st .args .d * st .args .blocks ≤ maxUsize)
+  counted : (i .before .loop .used + sizes .d * sizes .blocks ≡ st .args .d * ((i .before .loop .turn + 1) * st .args .blocks))
+      × (i .before .loop .used + sizes .d * sizes .blocks ≤ maxUsize)
   counted =
-      counted-more (st .args .d) (st .args .blocks) (i .before .loop .used) (i .before .loop .turn) (sentRows (st .args .s) (st .args .d)) maxUsize
-      (row .here) (i .before .loop .inv .1) (omega (arith, sent-few (st .pre .0)))
+      subst (λ (x : Sizes). (i .before .loop .used + x .d * x .blocks ≡ st .args .d * ((i .before .loop .turn + 1) * st .args .blocks)) × (i .before .loop .used + x .d * x .blocks ≤ maxUsize))
+      (sym sizes-are)
+      (counted-more (st .args .d) (st .args .blocks) (i .before .loop .used) (i .before .loop .turn) (sentRows (st .args .s) (st .args .d)) maxUsize
+      (row .here) (i .before .loop .inv .1) (omega (arith, sent-few (st .pre .0))))
 
 -- the places are the origins of its coefficients
 module _ (c : tie.After-row-origins Inv-loop μ-loop) where
@@ -86,9 +86,7 @@ pub decode-spec : {M : Type 1} → statement M
 decode-spec =
     tie.close
     (tie.spec Inv-loop μ-loop
-    (λ c. search needs)
-    (λ c κs. search needs)
-    (λ c. omega (arith, prefix-few (c .before .before .before .before .before .pre .0) (c .rows-of-count .result) (c .rows-of-count .ensures)))
+    (λ c κs. omega (arith, prefix-few (c .before .before .before .pre .0)))
     (λ c κs. search needs)
     (λ c.
     let a = start c .args in
@@ -99,11 +97,12 @@ decode-spec =
     (λ c.
     let o = c .before in
     let R = row (at-row o) in
-    omega (arith, row-fits (row-at R) (origins o) .inside, prefix-few (R .input) (P (at-row o)) (R .P-is)))
+    omega (arith, row-fits (row-at R) (origins o) .inside, prefix-few (R .input)))
     (λ c κs.
     let o = c .before .before .before .before in
     let k = at-row o in
-    ((sizes-fit (row-at (row k)), rw (top-is o) (row-fits (row-at (row k)) (origins o)), i k .before .loop .inv .2 ∙ st k .pre .2), counted k .1))
+    let fits = row-told (st k .args .prefixes .now) (row-at (row k)) (origins o) (sizes-are k) (top-is o) in
+    ((fits .0, fits .1, i k .before .loop .inv .2 ∙ st k .pre .2 ∙ ap (λ (x : Sizes). x .blocks * x .block) (sym (sizes-are k))), counted k .1))
     (λ c.
     let k = at-row (c .before .before .before .before .before .before .before) in
     omega (arith, i k .loop-test .taken, st k .fits .many))
@@ -119,8 +118,8 @@ decode-spec =
       v .decode-row .ensures .0 ∙ counted k .0,
       v .decode-row .kept .1 .1 .1 .1 .1 .1 .1 .0 ∙ l .inv .2,
       λ B K points W X.
-          row-done (row k) (origins o) (l .work) (v .decode-row .last .1 .1 .1 .1 .1 .1 .1 .0) (st k .args .weights)
-          (rw (top-is o) at (v .decode-row .ensures .1)) B K points W (sent-at (st k .args .skip) (st k .args .prefixes .now) (P-is k) X) (l .inv .3 B K points W X),
+          row-done (st k .args .prefixes .now) (row k) (origins o) (sizes-are k) (top-is o) (l .work) (v .decode-row .last .1 .1 .1 .1 .1 .1 .1 .0) (st k .args .weights)
+          (v .decode-row .ensures .1) B K points W X (l .inv .3 B K points W X),
     ))
     (λ c. c .before .loop .inv .2)
     (λ c.

@@ -7,59 +7,58 @@ use Prim.Native.Nat.{ℕ, _+_, _-_, _*_, _≤_, zero-le}
 use native.Mathlib.Omega.{arith}
 use lib.ListN.{length, replicate, length-replicate}
 use borrow.Author.Needs.{needs}
-use Rattle.lists.specs.Without.{withoutPiece}
 use Rattle.lists.proofs.Joined.{row-room}
 use Rattle.interpolation.specs.Interpolation.{side}
 use Rattle.scheme.specs.Limits.{maxBlock, maxBlocks}
 use Rattle.rows.specs.Sources.{RowOrigins}
-use Rattle.reader.specs.Decoding.{readBy}
+use Rattle.reader.specs.declared.decoding.Sizes.{Sizes}
+use Rattle.reader.specs.Decoding.{sizesOf, readFrom}
 use Rattle.reader.proofs.CountedScheme.{rows-small, prefix-few}
-use Rattle.reader.proofs.RowFacts.{RowAt, top, row-places, sizes-fit, row-fits}
+use Rattle.reader.proofs.RowFacts.{RowAt, top, row-places, row-told}
 use Rattle.reader.proofs.ShareFilling.{FillsRows, rows-none, rows-more, rows-all}
-use Rattle.reader.proofs.Skips.{input-at, sent-at}
 use Rattle.reader.proofs.filling.fill_share.Statement.{statement}
 use Rattle.reader.proofs.filling.fill_share.Tie as tie
 
 abbrev Inv-loop : tie.InvT-loop
 Inv-loop s counts d skip blocks chosen prefixes work out₀ rows sizes weights j₀ out j =
-    (j ≤ rows) × (length out ≡ length out₀) × FillsRows s counts d blocks chosen (readBy sizes prefixes) work j out
+    (j ≤ rows) × (length out ≡ length out₀) × FillsRows s counts d blocks chosen (readFrom s d blocks skip prefixes) work j out
 
 abbrev μ-loop : tie.MeasureT-loop
 μ-loop s counts d skip blocks chosen prefixes work out₀ rows sizes weights j₀ out j = rows - j
 
-abbrev start : tie.After-rows-of-count Inv-loop μ-loop → tie.Start Inv-loop μ-loop
-start c = c .before .before .before .before .before .before
+abbrev start : tie.After-sizes-of Inv-loop μ-loop → tie.Start Inv-loop μ-loop
+start c = c .before .before .before .before .before
 
 -- a share is short
 short : (s : tie.Start Inv-loop μ-loop) → s .args .s .rows * s .args .blocks ≤ maxBlock * maxBlocks
-short s = prefix-few (s .pre .0 .0) (s .args .s .rows) (sym (s .pre .0 .1))
+short s = rw (← s .pre .0 .1) (prefix-few (s .pre .0 .0))
 
--- what is read, by the number of rows that was counted
-abbrev read : tie.After-rows-of-count Inv-loop μ-loop → List ℕ
-read c = let a = start c .args in withoutPiece (c .rows-of-count .result * a .blocks) (a .skip) (a .prefixes .now)
+-- what is read
+abbrev read : tie.Start Inv-loop μ-loop → List ℕ
+read s = let a = s .args in readFrom (a .s) (a .d) (a .blocks) (a .skip) (a .prefixes .now)
 
 -- the row that is next
 module _ (c : tie.In-loop Inv-loop μ-loop) where
-  abbrev g : tie.After-rows-of-count Inv-loop μ-loop
+  abbrev g : tie.After-sizes-of Inv-loop μ-loop
   g = c .before .before .before
 
   abbrev st : tie.Start Inv-loop μ-loop
   st = start g
 
-  abbrev P : ℕ
-  P = g .rows-of-count .result
+  abbrev sizes : Sizes
+  sizes = g .sizes-of .result
 
-  row : RowAt (st .args .s) (st .args .counts .now) (st .args .d) (st .args .skip) (st .args .blocks) (read g) P (c .before .loop .j)
-  row =
-      record {
-        input = input-at (st .args .skip) (st .args .prefixes .now) (g .rows-of-count .ensures) (st .pre .0 .0);
-        P-is = g .rows-of-count .ensures;
-        inside = omega (arith, c .loop-test .taken, st .pre .0 .1);
-      }
+  sizes-are : sizes ≡ sizesOf (st .args .s) (st .args .d) (st .args .skip) (st .args .blocks)
+  sizes-are = g .sizes-of .ensures
+
+  row : RowAt (st .args .s) (st .args .counts .now) (st .args .d) (st .args .skip) (st .args .blocks) (read st) (c .before .loop .j)
+  row = record { input = st .pre .0 .0; inside = omega (arith, c .loop-test .taken, st .pre .0 .1) }
 
   -- its places in the output
-  inside : c .before .loop .j * st .args .blocks + st .args .blocks ≤ st .args .s .rows * st .args .blocks
-  inside = row-room (c .before .loop .j) (st .args .s .rows) (st .args .blocks) (c .loop-test .taken)
+  inside : c .before .loop .j * st .args .blocks + sizes .blocks ≤ st .args .s .rows * st .args .blocks
+  inside =
+      subst (λ (x : Sizes). c .before .loop .j * st .args .blocks + x .blocks ≤ st .args .s .rows * st .args .blocks) (sym sizes-are)
+      (row-room (c .before .loop .j) (st .args .s .rows) (st .args .blocks) (c .loop-test .taken))
 
 -- the places are the origins of its coefficients
 module _ (c : tie.After-row-origins Inv-loop μ-loop) where
@@ -83,13 +82,11 @@ pub fill-share-spec : {M : Type 1} → statement M
 fill-share-spec =
     tie.close
     (tie.spec Inv-loop μ-loop
-    (λ c. search needs)
-    (λ c κs. search needs)
-    (λ c. omega (arith, prefix-few (start c .pre .0 .0) (c .rows-of-count .result) (c .rows-of-count .ensures)))
+    (λ c κs. omega (arith, prefix-few (c .before .before .before .before .pre .0 .0)))
     (λ c κs. search needs)
     (λ c.
     let a = start (c .before) .args in
-    (zero-le, refl, rows-none (a .s) (a .counts .now) (a .d) (a .blocks) (a .chosen .now) (read (c .before)) (a .work .now) (a .out .now)))
+    (zero-le, refl, rows-none (a .s) (a .counts .now) (a .d) (a .blocks) (a .chosen .now) (read (start (c .before))) (a .work .now) (a .out .now)))
     (λ c. search needs)
     (λ c κs. search needs)
     (λ c.
@@ -100,12 +97,12 @@ fill-share-spec =
     let k = i o in
     let s = st k in
     let l = k .before .loop in (
-      (sizes-fit (row k), rw (top-is o) (row-fits (row k) (origins o))),
+      row-told (s .args .prefixes .now) (row k) (origins o) (sizes-are k) (top-is o),
       (omega (arith, inside k, l .inv .1, s .pre .1), omega (arith, l .inv .1, s .pre .1, short s)),
     ))
     (λ c.
     let k = i (c .before .before .before .before .before .before .before) in
-    omega (arith, row k .inside, rows-small (row k .input .counted) (P k) (row k .P-is), row k .P-is))
+    omega (arith, row k .inside, rows-small (row k .input .counted)))
     (λ c.
     let k = i (c .before .before .before .before .before .before .before) in
     omega (arith, k .loop-test .taken))
@@ -117,8 +114,8 @@ fill-share-spec =
     let l = k .before .loop in (
       omega (arith, k .loop-test .taken),
       f .fill-row .kept .1 .1 .1 .1 .1 .1 .1 .0 ∙ l .inv .1,
-      rows-more (row k) (origins o) (a .chosen .now) (k .before .before .in-first-column .result) (a .work .now) (l .out) (f .fill-row .last .1 .1 .1 .1 .1 .1 .1 .0)
-          (k .before .before .in-first-column .ensures) (rw (top-is o) at (f .fill-row .ensures)) (l .inv .2),
+      rows-more (a .prefixes .now) (row k) (origins o) (sizes-are k) (top-is o) (a .chosen .now) (k .before .before .in-first-column .result) (a .work .now) (l .out) (f .fill-row .last .1 .1 .1 .1 .1 .1 .1 .0)
+          (k .before .before .in-first-column .ensures) (f .fill-row .ensures) (l .inv .2),
     ))
     (λ c. c .before .loop .inv .1)
     (λ c.
@@ -127,6 +124,6 @@ fill-share-spec =
     let a = s .args in
     let whole : l .j ≡ a .s .rows = omega (arith, l .inv .0, c .loop-test .left) in
     λ B K points weights x W C X same.
-    rows-all (a .s) (a .counts .now) (a .d) (a .blocks) (a .chosen .now) (read (c .before .before .before)) (a .work .now) (l .out) (l .inv .1 ∙ s .pre .1)
+    rows-all (a .s) (a .counts .now) (a .d) (a .blocks) (a .chosen .now) (read s) (a .work .now) (l .out) (l .inv .1 ∙ s .pre .1)
     (rw whole at (l .inv .2))
-    B K points weights x W C (sent-at (a .skip) (a .prefixes .now) (c .before .before .before .rows-of-count .ensures) X) same))
+    B K points weights x W C X same))
