@@ -1,0 +1,132 @@
+//! A scheme as it is given on the command line, and the lengths that follow from it.
+
+use crate::arguments::{byte_list, usage, Arguments};
+use crate::failure::Failure;
+use gilunavoi::limits::{DEFAULT_COUNTS, DEFAULT_N, DEFAULT_R, DEFAULT_Z};
+use gilunavoi::limits::{FORMER_DEFAULT_COUNTS, FORMER_DEFAULT_N, FORMER_DEFAULT_R, FORMER_DEFAULT_Z};
+use gilunavoi::raw;
+use std::ffi::OsStr;
+use std::fmt;
+
+pub struct Scheme {
+    pub n: u8,
+    pub r: u8,
+    pub z: u8,
+    pub counts: Vec<u8>,
+    /// Nobody named it.
+    by_default: bool,
+}
+
+/// The lengths of an accepted scheme's block: m bytes in b rows.
+pub struct Block {
+    pub bytes: usize,
+    pub rows: usize,
+    z: usize,
+}
+
+/// The scheme of the library's calls without one.
+impl Default for Scheme {
+    fn default() -> Scheme {
+        Scheme { by_default: true, ..Scheme::named(DEFAULT_N, DEFAULT_R, DEFAULT_Z, &DEFAULT_COUNTS) }
+    }
+}
+
+impl Scheme {
+    fn named(n: u8, r: u8, z: u8, counts: &[u8]) -> Scheme {
+        Scheme { n, r, z, counts: counts.to_vec(), by_default: false }
+    }
+
+    /// The default before, of which shares are stored.
+    pub fn former_default() -> Scheme {
+        Scheme::named(FORMER_DEFAULT_N, FORMER_DEFAULT_R, FORMER_DEFAULT_Z, &FORMER_DEFAULT_COUNTS)
+    }
+
+    /// N, R, Z and the counts, in one word or in several; the default scheme where there is none.
+    pub fn from_words<'a>(words: impl IntoIterator<Item = &'a OsStr>) -> Result<Scheme, Failure> {
+        let lists = words.into_iter().map(byte_list).collect::<Result<Vec<_>, Failure>>()?;
+        match lists.concat()[..] {
+            [] => Ok(Scheme::default()),
+            [n, r, z, ref counts @ ..] => Ok(Scheme::named(n, r, z, counts)),
+            _ => usage("a scheme is N, R, Z and the counts".to_string()),
+        }
+    }
+
+    pub fn of(arguments: &Arguments) -> Result<Scheme, Failure> {
+        Scheme::from_words(arguments.option("--scheme"))
+    }
+
+    /// As it is written after `--scheme`.
+    pub fn in_a_row(&self) -> String {
+        in_a_row(&[&[self.n, self.r, self.z], &self.counts[..]].concat())
+    }
+
+    /// For a report: which scheme was used.
+    pub fn used(&self) -> String {
+        let default = if self.by_default { "the default, " } else { "" };
+        format!("{default}{}", self.in_a_row())
+    }
+
+    /// The same for who reads shares: those from before the default was this one do not tell it.
+    pub fn used_by_readers(&self) -> String {
+        let hint = format!("; shares of the former default need --scheme {}", Scheme::former_default().in_a_row());
+        format!("{}{}", self.used(), if self.by_default { &hint } else { "" })
+    }
+
+    /// Adds to a refusal for a length, for an end that is none, for a range past the blocks, or for shares that do not agree,
+    /// that the scheme may be what is wrong.
+    pub fn suspected(&self, failure: Failure) -> Failure {
+        match failure {
+            Failure::Refused(number @ (9 | 11 | 15 | 18), detail) => {
+                let same = if self.by_default { "" } else { ": shares have to be split, and prefixes cut, in it too" };
+                Failure::Refused(number, format!("{detail}\nthe scheme is {}{same}", self.used_by_readers()))
+            }
+            _ => failure,
+        }
+    }
+
+    /// Asks the library whether the scheme is accepted.
+    pub fn check(&self) -> Result<Block, Failure> {
+        match raw::check(self.n, self.r, self.z, &self.counts) {
+            Ok((m, b)) => Ok(Block { bytes: m as usize, rows: b as usize, z: self.z as usize }),
+            Err(number) => Err(Failure::Refused(number, format!("the scheme is {self}"))),
+        }
+    }
+}
+
+/// Numbers with commas between them.
+fn in_a_row(numbers: &[u8]) -> String {
+    numbers.iter().map(u8::to_string).collect::<Vec<_>>().join(",")
+}
+
+impl fmt::Display for Scheme {
+    fn fmt(&self, f: &mut fmt::Formatter) -> fmt::Result {
+        write!(f, "N {}, R {}, Z {}, ", self.n, self.r, self.z)?;
+        match &self.counts[..] {
+            [] => write!(f, "no counts"),
+            counts => write!(f, "counts {}", in_a_row(counts)),
+        }
+    }
+}
+
+/// The lengths are those of a message that is not refused for its own length; a number that anyone
+/// might type could be too large to multiply.
+impl Block {
+    /// The blocks of a message in the earlier form, where the last one is padded if it is not full.
+    pub fn blocks(&self, message: usize) -> usize {
+        message.div_ceil(self.bytes)
+    }
+
+    /// The blocks of a padded message, which knows its own end.
+    pub fn padded_blocks(&self, message: usize) -> usize {
+        message / self.bytes + 1
+    }
+
+    pub fn keys(&self, blocks: usize) -> usize {
+        blocks * self.z * self.rows
+    }
+
+    /// The bytes of one block in a prefix when d parties are read from, d one of the counts.
+    pub fn prefix_of_block(&self, d: usize) -> usize {
+        self.bytes / (d - self.z)
+    }
+}

@@ -1,0 +1,142 @@
+//! The command `split`, with keys from a pool or from a file for this one message.
+
+use crate::arguments::{paths, usage, Arguments};
+use crate::failure::{Done, Failure};
+use crate::files::{read, Input, Output};
+use crate::pool::{check_no_pool, Pool};
+use crate::report::counted;
+use crate::scheme::{Block, Scheme};
+use gilunavoi::raw::{self, KeyPool};
+use std::ffi::{OsStr, OsString};
+use std::path::{Path, PathBuf};
+
+pub fn run(arguments: &Arguments) -> Done {
+    match arguments.option("--pool") {
+        None => with_key_file(arguments),
+        Some(pool) => from_pool(arguments, pool),
+    }
+}
+
+fn with_key_file(arguments: &Arguments) -> Done {
+    let [message, keys, folder] = paths(&arguments.words, ["MESSAGE", "KEYS", "FOLDER"])?;
+    check_no_pool(&keys)?;
+    let splitting = Splitting::new(arguments, message)?;
+    let shares = splitting.shares(&read(keys)?)?;
+    let mut output = Output::in_folder(&folder, splitting.names())?;
+    output.write(&splitting.files(&shares))?;
+    output.keep(&splitting.report(&folder))
+}
+
+/// The order of these steps is what a pool is for: a failure before the keys are marked as used leaves all as it was, and
+/// nothing of a share is on the disk until their record is safe and they are overwritten.
+fn from_pool(arguments: &Arguments, pool: &OsStr) -> Done {
+    if arguments.words.len() == 3 {
+        return usage("with --pool there are no KEYS: needed are MESSAGE, FOLDER".to_string());
+    }
+    if pool.is_empty() {
+        return usage("--pool needs the folder of a pool".to_string());
+    }
+    let [message, folder] = paths(&arguments.words, ["MESSAGE", "FOLDER"])?;
+    let splitting = Splitting::new(arguments, message)?;
+    let mut pool = Pool::to_use(pool.as_ref())?;
+    pool.make_ready()?;
+    // A name that is taken, or a folder that cannot be written in, is seen before keys are used for it.
+    let mut output = Output::in_folder(&folder, splitting.names())?;
+    output.try_to_write()?;
+    let (shares, record) = splitting.shares_from(&pool)?;
+    let used = record.position - pool.record().position;
+    pool.mark_used(record)?;
+    let told = format!("{}{}.\n", splitting.report(&folder), pool.told(&format!("{used} used for this message")));
+    let kept = pool.settle().and_then(|()| output.write(&splitting.files(&shares))).and_then(|()| output.keep(&told));
+    kept.map_err(|failure| Failure::Besides(Box::new(failure), pool.told(&format!("{used} used all the same"))))
+}
+
+/// A message that is to be split, and how.
+struct Splitting {
+    unpadded: bool,
+    scheme: Scheme,
+    block: Block,
+    message: Input,
+}
+
+impl Splitting {
+    fn new(arguments: &Arguments, message: PathBuf) -> Result<Splitting, Failure> {
+        let unpadded = arguments.flag("--unpadded");
+        let scheme = Scheme::of(arguments)?;
+        let block = scheme.check()?;
+        Ok(Splitting { unpadded, scheme, block, message: read(message)? })
+    }
+
+    fn blocks(&self) -> usize {
+        let length = self.message.bytes.len();
+        if self.unpadded {
+            self.block.blocks(length)
+        } else {
+            self.block.padded_blocks(length)
+        }
+    }
+
+    /// The length of a share.
+    fn share(&self) -> usize {
+        self.blocks() * self.block.rows
+    }
+
+    fn room(&self) -> Vec<u8> {
+        vec![0; self.scheme.n as usize * self.share()]
+    }
+
+    /// The shares, party after party.
+    fn shares(&self, keys: &Input) -> Result<Vec<u8>, Failure> {
+        let mut shares = self.room();
+        let Scheme { n, r, z, ref counts, .. } = self.scheme;
+        let split = if self.unpadded { raw::split } else { raw::split_padded };
+        let answer = split(n, r, z, counts, &self.message.bytes, &keys.bytes, &mut shares);
+        answer.map_err(|number| match number {
+            8 => self.other_keys_needed(8, keys.to_string()),
+            _ => Failure::Refused(number, self.message.to_string()),
+        })?;
+        Ok(shares)
+    }
+
+    /// The same with the next keys of a pool, and the record that follows.
+    fn shares_from(&self, pool: &Pool) -> Result<(Vec<u8>, KeyPool), Failure> {
+        let (mut shares, mut record) = (self.room(), pool.record());
+        let Scheme { n, r, z, ref counts, .. } = self.scheme;
+        let split = if self.unpadded { raw::split_from_pool } else { raw::split_padded_from_pool };
+        let answer = split(&mut record, n, r, z, counts, &self.message.bytes, &pool.keys.bytes, &mut shares);
+        answer.map_err(|number| match number {
+            16 if pool.fits() => self.other_keys_needed(16, format!("{:?} has {} left", pool.folder, pool.left())),
+            16 => pool.misfit(),
+            _ => Failure::Refused(number, self.message.to_string()),
+        })?;
+        Ok((shares, record))
+    }
+
+    /// The refusal of keys that are too few, or other than so many.
+    fn other_keys_needed(&self, number: u64, given: String) -> Failure {
+        let (needed, used) = (counted(self.block.keys(self.blocks()), "byte"), self.scheme.used());
+        Failure::Refused(number, format!("it needs {needed}, and {given}\nthe scheme is {used}"))
+    }
+
+    fn names(&self) -> Vec<OsString> {
+        (1..=self.scheme.n).map(|party| OsString::from(format!("share-{party}"))).collect()
+    }
+
+    /// What stands under each of the names.
+    fn files<'a>(&self, shares: &'a [u8]) -> Vec<&'a [u8]> {
+        let part = |party: usize| &shares[party * self.share()..(party + 1) * self.share()];
+        (0..self.scheme.n as usize).map(part).collect()
+    }
+
+    fn report(&self, folder: &Path) -> String {
+        let (n, bytes, used) = (self.scheme.n, counted(self.share(), "byte"), self.scheme.used());
+        let mut told =
+            format!("{n} shares of {bytes} are in {folder:?}, share-1 to share-{n}.\nThe scheme is {used}.\n");
+        if self.unpadded {
+            let length = self.message.bytes.len();
+            told += &format!("Keep the message's length, {length}: it is needed to open the message, ");
+            told += "and the shares do not hold it.\n";
+        }
+        told
+    }
+}
