@@ -1,9 +1,10 @@
 /*
  * Secret sharing by staircase polynomials over bytes, and archives of shares: the C boundary of the
- * proved libraries (x86-64). The calls whose names start with `archive_`, at the end, are in
- * target/staticlib/libarchive_exports.a, which `rt staticlib archive_exports` writes, all others in
- * target/staticlib/libexports.a, which `rt staticlib exports` writes. Neither needs the other, and a
- * program may link both.
+ * proved libraries (x86-64). Link target/libsharing.a, which tools/library makes of what
+ * `rt staticlib exports` and `rt staticlib archive_exports` write. It needs nothing but the C library's
+ * memcpy and memset, and every name in it starts with `sharing_`. The calls on bytes and on archives had
+ * other names before, which stand at the end: define SHARING_NO_OLD_NAMES before this file is included to
+ * have names of your own in their place.
  *
  * A scheme is n parties, of which r may be absent and z may collude, and a falling list of counts:
  * the numbers of parties from which a message can be reconstructed. With d parties, d one of the
@@ -29,9 +30,10 @@
  * bytes, or pieces of the message. docs/former-default.md has the lengths.
  *
  * Every call returns, whatever numbers, bytes and lengths it is given; no pointer may be NULL, not even
- * beside the length 0. `refusal` is 0 when it was accepted; otherwise it is the first of these numbers
- * that applies (15 and 17 are looked at before 9, 16 before 10, and 10 by archive_write alone last), every
- * other field is 0 but for `tried` beside refusal 4 and `party` beside refusal 18, and nothing was written:
+ * beside the length 0, which compilers that look at it are told. `refusal` is 0 when it was accepted;
+ * otherwise it is the first of these numbers that applies (15 and 17 are looked at before 9, 16 before 10,
+ * and 10 by sharing_archive_write alone last), every other field is 0 but for `tried` beside refusal 4 and
+ * `party` beside refusal 18, and nothing was written. `sharing_refusal` has a name for each:
  *
  *    1  n is below 2 or above 16
  *    2  z is 0, or r + z is n or more
@@ -68,12 +70,27 @@
  * kept as secret as the message, and used for one message only: the library draws none. A pool of keys asks
  * for more, which stands beside its record, sharing_key_pool.
  *
+ * Memory: no call allocates, or keeps anything for the next one. It works on what it is lent and on its
+ * stack, of which it needs at most SHARING_STACK bytes: rebuilding a share about 43 KB, opening about 23 KB,
+ * all others less than 3 KB. So it was measured; it is not proved. Copies of the message and of keys stay on
+ * the stack after the call. Where that matters, overwrite SHARING_STACK bytes of the stack from the same place
+ * afterwards, or call in a thread whose stack is yours and overwrite that when the thread has ended.
+ *
+ * Threads: any number of calls may run at once, also one in a signal handler that interrupted another, as
+ * long as nobody else writes what a call reads, or touches what it writes: `out`, and of a pool its record
+ * and its bytes, belong to one call at a time.
+ *
+ * C++: data() of an empty std::vector may be NULL, which no call takes. Lend the address of any byte then:
+ *
+ *     static const uint8_t none = 0;
+ *     const uint8_t *lent = v.empty() ? &none : v.data();
+ *
  * In Rattle there are four operations more on schemes: the prefix as a part of the lent share, in either
  * form of message, which in C is the share's own pointer with the length that sharing_prefix or
  * sharing_prefix_padded answers; the size of a basis, whose refusal stands here beside the table, since
  * a struct holds both; and the text of a scheme's sheet, which the program scheme_sheet prints. And there
- * are two on archives, for which archive_entry stands here: the length of an entry, and the entry as a
- * part of the lent file, which in C is the file's own pointer plus the offset.
+ * are two on archives, for which sharing_archive_entry stands here: the length of an entry, and the entry
+ * as a part of the lent file, which in C is the file's own pointer plus the offset.
  */
 #ifndef SHARING_H
 #define SHARING_H
@@ -81,9 +98,86 @@
 #include <stddef.h>
 #include <stdint.h>
 
+/* Written by `make version` from the file VERSION. */
+#define SHARING_VERSION_MAJOR 0
+#define SHARING_VERSION_MINOR 2
+#define SHARING_VERSION_PATCH 0
+#define SHARING_VERSION "0.2.0"
+
+/* The limits: the most parties, the most counts, and the longest block and the longest message in bytes. */
+#define SHARING_MAX_PARTIES 16
+#define SHARING_MAX_COUNTS 8
+#define SHARING_MAX_BLOCK 840
+#define SHARING_MAX_MESSAGE 16384
+/* Of an archive: the most entries, and the greatest offset and the greatest length of one. */
+#define SHARING_MAX_ENTRIES 4096
+#define SHARING_MAX_OFFSET_OR_LENGTH 65535
+
+/* The scheme of the calls whose names end in `_default`; the counts are for an array of bytes. */
+#define SHARING_DEFAULT_N 5
+#define SHARING_DEFAULT_R 2
+#define SHARING_DEFAULT_Z 2
+#define SHARING_DEFAULT_COUNTS {5, 4, 3}
+
+/* No call needs more bytes of stack; it was measured, and is 48 KB. */
+#define SHARING_STACK 49152
+
+/*
+ * What a compiler can watch over: that no NULL is passed, and that an answer is looked at, since a refusal
+ * stands nowhere else.
+ */
+#if defined(__GNUC__) || defined(__clang__)
+#define SHARING_CALL __attribute__((nonnull, warn_unused_result))
+#define SHARING_CALL_WITHOUT_POINTERS __attribute__((warn_unused_result))
+#else
+#define SHARING_CALL
+#define SHARING_CALL_WITHOUT_POINTERS
+#endif
+
 #ifdef __cplusplus
 extern "C" {
 #endif
+
+/* The numbers of the refusals, in a few words; the table above has the full ones. */
+typedef enum sharing_refusal {
+    SHARING_ACCEPTED = 0,
+    /* n: too few parties, or too many. */
+    SHARING_REFUSED_PARTIES = 1,
+    /* r and z: none may collude, or too few parties are left. */
+    SHARING_REFUSED_ABSENT_OR_COLLUDING = 2,
+    /* The list of counts. */
+    SHARING_REFUSED_COUNTS = 3,
+    /* The block would be too long. */
+    SHARING_REFUSED_BLOCK_LENGTH = 4,
+    /* The message is too long. */
+    SHARING_REFUSED_MESSAGE_LENGTH = 5,
+    /* d: this number of parties is no count. */
+    SHARING_REFUSED_READERS = 6,
+    /* The list of parties, or the party to rebuild. */
+    SHARING_REFUSED_PARTY_NUMBERS = 7,
+    /* The length of the keys. */
+    SHARING_REFUSED_KEYS_LENGTH = 8,
+    /* The length of the share, the shares, the prefixes or the held copy. */
+    SHARING_REFUSED_SHARE_LENGTH = 9,
+    /* The length of the output. */
+    SHARING_REFUSED_OUT_LENGTH = 10,
+    /* What was opened does not end as a padded message does. */
+    SHARING_REFUSED_PADDING = 11,
+    /* An archive: too short, or too many entries. */
+    SHARING_REFUSED_ARCHIVE_COUNT = 12,
+    /* An archive: an entry that is out of its place, empty or too long. */
+    SHARING_REFUSED_ARCHIVE_ENTRIES = 13,
+    /* An archive: no entry has this number. */
+    SHARING_REFUSED_ENTRY_NUMBER = 14,
+    /* The range ends after the message. */
+    SHARING_REFUSED_RANGE = 15,
+    /* The pool's record does not fit its bytes, or too few are left. */
+    SHARING_REFUSED_POOL = 16,
+    /* Too few shares to rebuild one. */
+    SHARING_REFUSED_TOO_FEW_SHARES = 17,
+    /* The shares do not agree: one is wrong, or more. */
+    SHARING_REFUSED_DISAGREEING = 18
+} sharing_refusal;
 
 /* An accepted scheme: the length m of a block in bytes, and the number b of its rows. */
 typedef struct {
@@ -123,9 +217,11 @@ typedef struct {
 } sharing_basis_answer;
 
 /* Checks a scheme and answers its block length and rows. Refusals 1 to 4. */
+SHARING_CALL
 sharing_scheme sharing_check(uint8_t n, uint8_t r, uint8_t z, const uint8_t *counts, size_t counts_length);
 
 /* The same of the default scheme, which is accepted: 6 and 6. */
+SHARING_CALL_WITHOUT_POINTERS
 sharing_scheme sharing_check_default(void);
 
 /*
@@ -133,10 +229,12 @@ sharing_scheme sharing_check_default(void);
  * So `tried` is m / (d - z) of the first count where the scheme is accepted, 840 / (d - z) of the first
  * count (rounded down) on refusal 4, and 0 on refusals 1 to 3.
  */
+SHARING_CALL
 sharing_tried_scheme sharing_check_tried(
     uint8_t n, uint8_t r, uint8_t z, const uint8_t *counts, size_t counts_length);
 
 /* The same of the default scheme: 6, 6, and 2 tried. */
+SHARING_CALL_WITHOUT_POINTERS
 sharing_tried_scheme sharing_check_tried_default(void);
 
 /*
@@ -144,12 +242,14 @@ sharing_tried_scheme sharing_check_tried_default(void);
  * party 1 first. `value` is the length of one share. Refusals 1 to 5, 8 and 10 (`out` has n x N x b
  * bytes).
  */
+SHARING_CALL
 sharing_answer sharing_split_padded(
     uint8_t n, uint8_t r, uint8_t z, const uint8_t *counts, size_t counts_length,
     const uint8_t *message, size_t message_length, const uint8_t *keys, size_t keys_length,
     uint8_t *out, size_t out_length);
 
 /* The same with the default scheme. Refusals 5, 8 and 10. */
+SHARING_CALL
 sharing_answer sharing_split_padded_default(
     const uint8_t *message, size_t message_length, const uint8_t *keys, size_t keys_length,
     uint8_t *out, size_t out_length);
@@ -158,11 +258,13 @@ sharing_answer sharing_split_padded_default(
  * What one party sends of a padded message when d parties are read from: the first `value` bytes of
  * its share, which is lent whole. Refusals 1 to 4, 6 and 9.
  */
+SHARING_CALL
 sharing_answer sharing_prefix_padded(
     uint8_t n, uint8_t r, uint8_t z, const uint8_t *counts, size_t counts_length,
     size_t d, const uint8_t *share, size_t share_length);
 
 /* The same with the default scheme. Refusals 6 and 9. */
+SHARING_CALL
 sharing_answer sharing_prefix_padded_default(size_t d, const uint8_t *share, size_t share_length);
 
 /*
@@ -174,12 +276,14 @@ sharing_answer sharing_prefix_padded_default(size_t d, const uint8_t *share, siz
  * for another number of parties. Shares of the earlier form open too where their message ends in 128, or
  * in 128 and zeros; `length` is then too short.
  */
+SHARING_CALL
 sharing_padded_answer sharing_reconstruct_padded(
     uint8_t n, uint8_t r, uint8_t z, const uint8_t *counts, size_t counts_length,
     const uint8_t *parties, size_t parties_length, const uint8_t *prefixes, size_t prefixes_length,
     uint8_t *out, size_t out_length);
 
 /* The same with the default scheme. Refusals 6, 7, 9, 10 and 11. */
+SHARING_CALL
 sharing_padded_answer sharing_reconstruct_padded_default(
     const uint8_t *parties, size_t parties_length, const uint8_t *prefixes, size_t prefixes_length,
     uint8_t *out, size_t out_length);
@@ -188,12 +292,14 @@ sharing_padded_answer sharing_reconstruct_padded_default(
  * Splits a message in the earlier form: as sharing_split_padded, with the earlier form's N. Refusals 1
  * to 5, 8 and 10 (`out` has n x N x b bytes).
  */
+SHARING_CALL
 sharing_answer sharing_split(
     uint8_t n, uint8_t r, uint8_t z, const uint8_t *counts, size_t counts_length,
     const uint8_t *message, size_t message_length, const uint8_t *keys, size_t keys_length,
     uint8_t *out, size_t out_length);
 
 /* The same with the default scheme. Refusals 5, 8 and 10. */
+SHARING_CALL
 sharing_answer sharing_split_default(
     const uint8_t *message, size_t message_length, const uint8_t *keys, size_t keys_length,
     uint8_t *out, size_t out_length);
@@ -202,11 +308,13 @@ sharing_answer sharing_split_default(
  * What one party sends of a message of message_length bytes in the earlier form: as
  * sharing_prefix_padded. Refusals 1 to 6 and 9.
  */
+SHARING_CALL
 sharing_answer sharing_prefix(
     uint8_t n, uint8_t r, uint8_t z, const uint8_t *counts, size_t counts_length,
     size_t message_length, size_t d, const uint8_t *share, size_t share_length);
 
 /* The same with the default scheme. Refusals 5, 6 and 9. */
+SHARING_CALL
 sharing_answer sharing_prefix_default(size_t message_length, size_t d, const uint8_t *share, size_t share_length);
 
 /*
@@ -214,11 +322,13 @@ sharing_answer sharing_prefix_default(size_t message_length, size_t d, const uin
  * coefficients of the polynomial of degree below d that is 1 at the i-th party and 0 at the others.
  * Entries beyond d are 0. Refusals 1 to 4, 6 and 7.
  */
+SHARING_CALL
 sharing_basis_answer sharing_basis(
     uint8_t n, uint8_t r, uint8_t z, const uint8_t *counts, size_t counts_length,
     const uint8_t *parties, size_t parties_length);
 
 /* The same with the default scheme. Refusals 6 and 7. */
+SHARING_CALL
 sharing_basis_answer sharing_basis_default(const uint8_t *parties, size_t parties_length);
 
 /*
@@ -228,12 +338,14 @@ sharing_basis_answer sharing_basis_default(const uint8_t *parties, size_t partie
  * always open: the call cannot tell a false byte from a true one. Refusals 1 to 7, 9 and 10 (`out` has
  * message_length bytes).
  */
+SHARING_CALL
 sharing_answer sharing_reconstruct(
     uint8_t n, uint8_t r, uint8_t z, const uint8_t *counts, size_t counts_length,
     size_t message_length, const uint8_t *parties, size_t parties_length,
     const uint8_t *prefixes, size_t prefixes_length, uint8_t *out, size_t out_length);
 
 /* The same with the default scheme. Refusals 5 to 7, 9 and 10. */
+SHARING_CALL
 sharing_answer sharing_reconstruct_default(
     size_t message_length, const uint8_t *parties, size_t parties_length,
     const uint8_t *prefixes, size_t prefixes_length, uint8_t *out, size_t out_length);
@@ -252,12 +364,14 @@ sharing_answer sharing_reconstruct_default(
  * N x m bytes, or of 16,384 where that is more. Refusals 1 to 7, 15, 9 and 10 (`out` has range_length bytes),
  * in this order.
  */
+SHARING_CALL
 sharing_answer sharing_reconstruct_range(
     uint8_t n, uint8_t r, uint8_t z, const uint8_t *counts, size_t counts_length,
     size_t message_length, size_t start, size_t range_length, const uint8_t *parties, size_t parties_length,
     const uint8_t *prefixes, size_t prefixes_length, uint8_t *out, size_t out_length);
 
 /* The same with the default scheme. Refusals 5 to 7, 15, 9 and 10. */
+SHARING_CALL
 sharing_answer sharing_reconstruct_range_default(
     size_t message_length, size_t start, size_t range_length, const uint8_t *parties, size_t parties_length,
     const uint8_t *prefixes, size_t prefixes_length, uint8_t *out, size_t out_length);
@@ -294,12 +408,14 @@ typedef struct {
  * the record is as it was. `value` is the length of one share. Refusals 1 to 5, 16 and 10 (`out` has n x N x b
  * bytes), in this order.
  */
+SHARING_CALL
 sharing_answer sharing_split_padded_from_pool(
     sharing_key_pool *pool, uint8_t n, uint8_t r, uint8_t z, const uint8_t *counts, size_t counts_length,
     const uint8_t *message, size_t message_length, const uint8_t *pool_bytes, size_t pool_bytes_length,
     uint8_t *out, size_t out_length);
 
 /* The same with the default scheme. Refusals 5, 16 and 10. */
+SHARING_CALL
 sharing_answer sharing_split_padded_from_pool_default(
     sharing_key_pool *pool, const uint8_t *message, size_t message_length,
     const uint8_t *pool_bytes, size_t pool_bytes_length, uint8_t *out, size_t out_length);
@@ -308,12 +424,14 @@ sharing_answer sharing_split_padded_from_pool_default(
  * The same of a message in the earlier form, with that form's N: as sharing_split. An empty message takes no
  * byte, and is accepted also where none is left. Refusals 1 to 5, 16 and 10.
  */
+SHARING_CALL
 sharing_answer sharing_split_from_pool(
     sharing_key_pool *pool, uint8_t n, uint8_t r, uint8_t z, const uint8_t *counts, size_t counts_length,
     const uint8_t *message, size_t message_length, const uint8_t *pool_bytes, size_t pool_bytes_length,
     uint8_t *out, size_t out_length);
 
 /* The same with the default scheme. Refusals 5, 16 and 10. */
+SHARING_CALL
 sharing_answer sharing_split_from_pool_default(
     sharing_key_pool *pool, const uint8_t *message, size_t message_length,
     const uint8_t *pool_bytes, size_t pool_bytes_length, uint8_t *out, size_t out_length);
@@ -345,12 +463,14 @@ typedef struct {
  * wrong ones that were made to fit together can have a right one named. Which of two messages is the right one is
  * not told: if all but one are shares of another message, that one is named.
  */
+SHARING_CALL
 sharing_rebuild_answer sharing_rebuild(
     uint8_t n, uint8_t r, uint8_t z, const uint8_t *counts, size_t counts_length,
     const uint8_t *parties, size_t parties_length, const uint8_t *shares, size_t shares_length,
     uint8_t party, const uint8_t *held, size_t held_length, uint8_t *out, size_t out_length);
 
 /* The same with the default scheme. Refusals 7, 17, 9, 10 and 18. */
+SHARING_CALL
 sharing_rebuild_answer sharing_rebuild_default(
     const uint8_t *parties, size_t parties_length, const uint8_t *shares, size_t shares_length,
     uint8_t party, const uint8_t *held, size_t held_length, uint8_t *out, size_t out_length);
@@ -359,25 +479,29 @@ sharing_rebuild_answer sharing_rebuild_default(
  * Byte arithmetic of FIPS 197, section 4. Every byte is accepted. The sum, which is the difference too:
  * the exclusive or.
  */
-uint8_t gf256_add(uint8_t a, uint8_t b);
+SHARING_CALL_WITHOUT_POINTERS
+uint8_t sharing_gf256_add(uint8_t a, uint8_t b);
 
 /* The product, by tables. */
-uint8_t gf256_mul(uint8_t a, uint8_t b);
+SHARING_CALL_WITHOUT_POINTERS
+uint8_t sharing_gf256_mul(uint8_t a, uint8_t b);
 
 /* The same product, by shifting. */
-uint8_t gf256_mul_by_shifting(uint8_t a, uint8_t b);
+SHARING_CALL_WITHOUT_POINTERS
+uint8_t sharing_gf256_mul_by_shifting(uint8_t a, uint8_t b);
 
 /* Of an inverse: 1 and the byte, or 0 and 0 where there is none. */
 typedef struct {
     uint64_t exists;
     uint64_t inverse;
-} gf256_inverse_answer;
+} sharing_gf256_inverse_answer;
 
 /*
  * The byte whose product with a is 1. 0 has none: exists is then 0, and so is inverse, which means nothing
  * there. Look at exists first.
  */
-gf256_inverse_answer gf256_inverse(uint8_t a);
+SHARING_CALL_WITHOUT_POINTERS
+sharing_gf256_inverse_answer sharing_gf256_inverse(uint8_t a);
 
 /*
  * Archives. An archive is one file that holds many shares, its entries. It starts with their count, a
@@ -394,14 +518,15 @@ typedef struct {
     uint64_t refusal;
     uint64_t offset;
     uint64_t length;
-} archive_entry_answer;
+} sharing_archive_entry_answer;
 
 /*
  * Writes an archive into `out`. The entries stand in `contents` end to end; their lengths, as many as
  * there are entries, are any numbers. `value` is the length of the file, 2 + 4 x lengths_length +
  * contents_length. Refusals 12, 13 and 10 (`out` has that length), in this order.
  */
-sharing_answer archive_write(
+SHARING_CALL
+sharing_answer sharing_archive_write(
     const uint8_t *contents, size_t contents_length, const size_t *lengths, size_t lengths_length,
     uint8_t *out, size_t out_length);
 
@@ -409,13 +534,44 @@ sharing_answer archive_write(
  * `value` is how many entries an archive has. The whole file is checked: its count, every pair and its
  * end. Refusals 12 and 13.
  */
-sharing_answer archive_count(const uint8_t *file, size_t file_length);
+SHARING_CALL
+sharing_answer sharing_archive_count(const uint8_t *file, size_t file_length);
 
 /*
- * Where the entry of this number stands. The whole file is checked as by archive_count, whatever the
- * number is. Refusals 12, 13 and 14.
+ * Where the entry of this number stands. The whole file is checked as by sharing_archive_count, whatever
+ * the number is. Refusals 12, 13 and 14.
  */
+SHARING_CALL
+sharing_archive_entry_answer sharing_archive_entry(const uint8_t *file, size_t file_length, size_t number);
+
+/*
+ * The old names of these calls and types, for sources from before they had the prefix. Each call is the one
+ * with the prefix. In the library the old names are weak: a program that has another function of such a name,
+ * and defines SHARING_NO_OLD_NAMES, links and calls its own.
+ */
+#ifndef SHARING_NO_OLD_NAMES
+typedef sharing_gf256_inverse_answer gf256_inverse_answer;
+typedef sharing_archive_entry_answer archive_entry_answer;
+SHARING_CALL_WITHOUT_POINTERS
+uint8_t gf256_add(uint8_t a, uint8_t b);
+SHARING_CALL_WITHOUT_POINTERS
+uint8_t gf256_mul(uint8_t a, uint8_t b);
+SHARING_CALL_WITHOUT_POINTERS
+uint8_t gf256_mul_by_shifting(uint8_t a, uint8_t b);
+SHARING_CALL_WITHOUT_POINTERS
+gf256_inverse_answer gf256_inverse(uint8_t a);
+SHARING_CALL
+sharing_answer archive_write(
+    const uint8_t *contents, size_t contents_length, const size_t *lengths, size_t lengths_length,
+    uint8_t *out, size_t out_length);
+SHARING_CALL
+sharing_answer archive_count(const uint8_t *file, size_t file_length);
+SHARING_CALL
 archive_entry_answer archive_entry(const uint8_t *file, size_t file_length, size_t number);
+#endif
+
+#undef SHARING_CALL
+#undef SHARING_CALL_WITHOUT_POINTERS
 
 #ifdef __cplusplus
 }

@@ -2,6 +2,7 @@
  * Calls everything that include/sharing.h declares and compares the answers with known ones: a
  * declaration that does not fit the library, or a field out of its order, shows here.
  */
+#define SHARING_NO_OLD_NAMES
 #include "sharing.h"
 #include <stdio.h>
 #include <string.h>
@@ -19,7 +20,7 @@ static void expect(int holds, const char *what, int line) {
 /*
  * Five parties, one may be absent, two may collude: n, r and z all differ, and with r and z exchanged
  * every call refuses the scheme. A block has 6 bytes and 3 rows. The shares and the weights are those
- * of the other implementation, rust/src/reference.rs.
+ * of the other implementation, rust/comparison/src/reference.rs.
  */
 static const uint8_t counts[] = {5, 4};
 static const uint8_t message[] = {5, 7, 1, 255, 16}, keys[] = {9, 4, 2, 6, 200, 33};
@@ -29,18 +30,19 @@ static const uint8_t four[] = {1, 2, 4, 5};
 
 static void sizes(void) {
     EXPECT(sizeof(sharing_scheme) == 24 && sizeof(sharing_answer) == 16 && sizeof(sharing_basis_answer) == 264);
-    EXPECT(sizeof(sharing_padded_answer) == 24 && sizeof(archive_entry_answer) == 24 && sizeof(sharing_tried_scheme) == 32);
+    EXPECT(sizeof(sharing_padded_answer) == 24 && sizeof(sharing_archive_entry_answer) == 24);
+    EXPECT(sizeof(sharing_tried_scheme) == 32);
     EXPECT(sizeof ((sharing_basis_answer *)0)->weights == 256 && sizeof(sharing_key_pool) == 16);
-    EXPECT(sizeof(gf256_inverse_answer) == 16 && sizeof(sharing_rebuild_answer) == 24);
+    EXPECT(sizeof(sharing_gf256_inverse_answer) == 16 && sizeof(sharing_rebuild_answer) == 24);
 }
 
 static void arithmetic(void) {
-    EXPECT(gf256_add(0x57, 0x83) == 0xd4);
-    EXPECT(gf256_mul(0x57, 0x83) == 0xc1);
-    EXPECT(gf256_mul_by_shifting(0x57, 0x13) == 0xfe);
-    gf256_inverse_answer a = gf256_inverse(2);
+    EXPECT(sharing_gf256_add(0x57, 0x83) == 0xd4);
+    EXPECT(sharing_gf256_mul(0x57, 0x83) == 0xc1);
+    EXPECT(sharing_gf256_mul_by_shifting(0x57, 0x13) == 0xfe);
+    sharing_gf256_inverse_answer a = sharing_gf256_inverse(2);
     EXPECT(a.exists == 1 && a.inverse == 0x8d);
-    a = gf256_inverse(0);
+    a = sharing_gf256_inverse(0);
     EXPECT(a.exists == 0 && a.inverse == 0);
 }
 
@@ -153,8 +155,8 @@ static void pools(void) {
     EXPECT(pool.length == 13 && pool.position == 7);
     a = sharing_split_padded_from_pool(&pool, 5, 1, 2, counts, 2, message, 5, pool_bytes, 13, out, 15);
     EXPECT(a.refusal == 0 && a.value == 3 && pool.length == 13 && pool.position == 13);
-    sharing_split_padded(5, 1, 2, counts, 2, message, 5, pool_bytes + 7, 6, plain, 15);
-    EXPECT(memcmp(out, plain, 15) == 0);
+    a = sharing_split_padded(5, 1, 2, counts, 2, message, 5, pool_bytes + 7, 6, plain, 15);
+    EXPECT(a.refusal == 0 && memcmp(out, plain, 15) == 0);
     a = sharing_split_from_pool(&pool, 5, 1, 2, counts, 2, message, 0, pool_bytes, 13, out, 0);
     EXPECT(a.refusal == 0 && a.value == 0 && pool.length == 13 && pool.position == 13);
     pool.position = 1;
@@ -312,7 +314,7 @@ static void padded_by_default(void) {
 static void rebuilding_by_default(void) {
     const uint8_t text[] = "A few words", block_keys[24] = {1, 2, 3, 4, 5, 6}, all[] = {1, 2, 3, 4, 5};
     uint8_t of_all[60], wrong[60], out[12], before[12];
-    sharing_split_default(text, 12, block_keys, 24, of_all, 60);
+    EXPECT(sharing_split_default(text, 12, block_keys, 24, of_all, 60).refusal == 0);
     for (int place = 0; place < 5; place++) {
         memcpy(wrong, of_all, 60);
         wrong[12 * place + 7] ^= 32;
@@ -337,14 +339,14 @@ static void pools_by_default(void) {
     uint8_t out[90], plain[90] = {0};
     sharing_answer a = sharing_split_from_pool_default(&pool, text, 12, bytes, 60, out, 60);
     EXPECT(a.refusal == 0 && a.value == 12 && pool.length == 60 && pool.position == 24);
-    sharing_split_default(text, 12, bytes, 24, plain, 60);
-    EXPECT(memcmp(out, plain, 60) == 0);
+    a = sharing_split_default(text, 12, bytes, 24, plain, 60);
+    EXPECT(a.refusal == 0 && memcmp(out, plain, 60) == 0);
     a = sharing_split_padded_from_pool_default(&pool, text, 12, bytes, 60, out, 89);
     EXPECT(a.refusal == 10 && a.value == 0 && pool.position == 24 && memcmp(out, plain, 60) == 0);
     a = sharing_split_padded_from_pool_default(&pool, text, 12, bytes, 60, out, 90);
     EXPECT(a.refusal == 0 && a.value == 18 && pool.length == 60 && pool.position == 60);
-    sharing_split_padded_default(text, 12, bytes + 24, 36, plain, 90);
-    EXPECT(memcmp(out, plain, 90) == 0);
+    a = sharing_split_padded_default(text, 12, bytes + 24, 36, plain, 90);
+    EXPECT(a.refusal == 0 && memcmp(out, plain, 90) == 0);
     a = sharing_split_from_pool_default(&pool, text, 12, bytes, 60, out, 60);
     EXPECT(a.refusal == 16 && a.value == 0 && pool.position == 60 && memcmp(out, plain, 90) == 0);
     a = sharing_split_padded_from_pool_default(&pool, text, 12, bytes, 59, out, 90);
@@ -389,15 +391,15 @@ static const uint8_t archive[] = {3, 0, 14, 0, 1, 0, 15, 0, 2, 0, 17, 0, 3, 0, 7
 
 static void archives(void) {
     uint8_t file[20], none[2] = {7, 7};
-    sharing_answer a = archive_write(contents, 6, lengths, 3, file, 20);
+    sharing_answer a = sharing_archive_write(contents, 6, lengths, 3, file, 20);
     EXPECT(a.refusal == 0 && a.value == 20 && memcmp(file, archive, 20) == 0);
-    a = archive_count(archive, 20);
+    a = sharing_archive_count(archive, 20);
     EXPECT(a.refusal == 0 && a.value == 3);
-    archive_entry_answer e = archive_entry(archive, 20, 2);
+    sharing_archive_entry_answer e = sharing_archive_entry(archive, 20, 2);
     EXPECT(e.refusal == 0 && e.offset == 17 && e.length == 3);
-    a = archive_write(contents, 0, lengths, 0, none, 2);
+    a = sharing_archive_write(contents, 0, lengths, 0, none, 2);
     EXPECT(a.refusal == 0 && a.value == 2 && none[0] == 0 && none[1] == 0);
-    a = archive_count(none, 2);
+    a = sharing_archive_count(none, 2);
     EXPECT(a.refusal == 0 && a.value == 0);
 }
 
@@ -415,15 +417,65 @@ static void refused_archives(void) {
     memcpy(out, before, 20);
     memcpy(many, lengths, sizeof lengths);
     for (int i = 0; i < 4; i++) {
-        sharing_answer a = archive_write(contents, writes[i].contents, many, writes[i].lengths, out, writes[i].out);
+        sharing_answer a = sharing_archive_write(contents, writes[i].contents, many, writes[i].lengths, out, writes[i].out);
         EXPECT(a.refusal == writes[i].refusal && a.value == 0 && memcmp(out, before, 20) == 0);
     }
     for (int i = 0; i < 5; i++) {
-        archive_entry_answer e = archive_entry(archive, reads[i].file, reads[i].number);
+        sharing_archive_entry_answer e = sharing_archive_entry(archive, reads[i].file, reads[i].number);
         EXPECT(e.refusal == reads[i].refusal && e.offset == 0 && e.length == 0);
-        sharing_answer a = archive_count(archive, reads[i].file);
+        sharing_answer a = sharing_archive_count(archive, reads[i].file);
         EXPECT(a.refusal == (reads[i].refusal == 14 ? 0 : reads[i].refusal) && a.value == (a.refusal == 0 ? 3 : 0));
     }
+}
+
+/* What the limits say is accepted, and what is one more is refused. No scheme has a block from 841 to 857 bytes. */
+static void limits_of_schemes(void) {
+    const uint8_t falling[] = {10, 9, 8, 7, 6, 5, 4, 3, 2}, to_858[] = {14, 12, 7};
+    const uint8_t most[] = {SHARING_MAX_PARTIES}, more[] = {SHARING_MAX_PARTIES + 1};
+    EXPECT(sharing_check(SHARING_MAX_PARTIES, 0, 1, most, 1).refusal == SHARING_ACCEPTED);
+    EXPECT(sharing_check(SHARING_MAX_PARTIES + 1, 0, 1, more, 1).refusal == SHARING_REFUSED_PARTIES);
+    sharing_scheme s = sharing_check(9, 7, 1, falling + 1, SHARING_MAX_COUNTS);
+    EXPECT(s.refusal == SHARING_ACCEPTED && s.block == SHARING_MAX_BLOCK);
+    EXPECT(sharing_check(10, 8, 1, falling, SHARING_MAX_COUNTS + 1).refusal == SHARING_REFUSED_COUNTS);
+    EXPECT(sharing_check(14, 7, 1, to_858, 3).refusal == SHARING_REFUSED_BLOCK_LENGTH);
+}
+
+static void limits_of_archives(void) {
+    static uint8_t bytes[SHARING_MAX_OFFSET_OR_LENGTH + 2], file[1 << 17];
+    static size_t ones[SHARING_MAX_ENTRIES + 1];
+    const size_t entries = SHARING_MAX_ENTRIES, most = SHARING_MAX_OFFSET_OR_LENGTH;
+    /* The second entry starts after 10 bytes and the first. */
+    const size_t as_long[] = {most}, too_long[] = {most + 1}, late[] = {most - 10, 1}, too_late[] = {most - 9, 1};
+    const struct { const size_t *lengths; size_t many, contents, refusal; } writes[] = {
+        {ones, entries, entries, SHARING_ACCEPTED}, {ones, entries + 1, entries + 1, SHARING_REFUSED_ARCHIVE_COUNT},
+        {as_long, 1, most, SHARING_ACCEPTED}, {too_long, 1, most + 1, SHARING_REFUSED_ARCHIVE_ENTRIES},
+        {late, 2, most - 9, SHARING_ACCEPTED}, {too_late, 2, most - 8, SHARING_REFUSED_ARCHIVE_ENTRIES},
+    };
+    for (size_t i = 0; i <= entries; i++) ones[i] = 1;
+    for (size_t i = 0; i < sizeof writes / sizeof *writes; i++) {
+        size_t contents_length = writes[i].contents, many = writes[i].many;
+        sharing_answer a = sharing_archive_write(
+            bytes, contents_length, writes[i].lengths, many, file, 2 + 4 * many + contents_length);
+        EXPECT(a.refusal == writes[i].refusal);
+    }
+}
+
+/* The longest message, of the default scheme with and without its name. */
+static void longest_message(void) {
+    static uint8_t text[SHARING_MAX_MESSAGE + 1], drawn[1 << 16], named[1 << 17], unnamed[1 << 17];
+    const uint8_t three[] = SHARING_DEFAULT_COUNTS;
+    for (size_t i = 0; i < sizeof drawn; i++) drawn[i] = (uint8_t)(i * i / 7);
+    for (size_t i = 0; i < sizeof text; i++) text[i] = (uint8_t)(i / 3);
+    const size_t share = (SHARING_MAX_MESSAGE / 6 + 1) * 6;
+    const size_t all = SHARING_DEFAULT_N * share, two = SHARING_DEFAULT_Z * share;
+    sharing_answer a = sharing_split_padded(
+        SHARING_DEFAULT_N, SHARING_DEFAULT_R, SHARING_DEFAULT_Z, three, sizeof three, text, SHARING_MAX_MESSAGE,
+        drawn, two, named, all);
+    EXPECT(a.refusal == SHARING_ACCEPTED && a.value == share);
+    a = sharing_split_padded_default(text, SHARING_MAX_MESSAGE, drawn, two, unnamed, all);
+    EXPECT(a.refusal == SHARING_ACCEPTED && memcmp(named, unnamed, all) == 0);
+    a = sharing_split_padded_default(text, SHARING_MAX_MESSAGE + 1, drawn, two, unnamed, all);
+    EXPECT(a.refusal == SHARING_REFUSED_MESSAGE_LENGTH);
 }
 
 int main(void) {
@@ -449,5 +501,8 @@ int main(void) {
     stored_padded_shares();
     archives();
     refused_archives();
+    limits_of_schemes();
+    limits_of_archives();
+    longest_message();
     return failures != 0;
 }

@@ -1,25 +1,70 @@
-//! Finds the proved libraries, and says what to do where they are not built.
+//! Finds the library, and says what to do where there is none: the compiler's own words would not.
 
-use std::path::Path;
+use std::env;
+use std::path::{Path, PathBuf};
+use std::process::Command;
 
-// The proved libraries: `rt staticlib NAME` writes each.
-const LIBRARIES: [&str; 2] = ["exports", "archive_exports"];
+const LIBRARY: &str = "libsharing.a";
 
 fn main() {
-    let root = std::env::var("CARGO_MANIFEST_DIR").expect("cargo names the package's folder");
-    let folder = format!("{root}/../../target/staticlib");
-    println!("cargo:rustc-link-search=native={folder}");
-    let mut missing = false;
-    for name in LIBRARIES {
-        println!("cargo:rustc-link-lib=static={name}");
-        println!("cargo:rerun-if-changed={folder}/lib{name}.a");
-        // The compiler's own words for this would not say what to do.
-        if !Path::new(&folder).join(format!("lib{name}.a")).exists() {
-            eprintln!("a proved library is not built: run `rt staticlib {name}` first");
-            missing = true;
+    for name in ["SHARING_LIB_DIR", "PKG_CONFIG", "PKG_CONFIG_PATH", "PKG_CONFIG_LIBDIR"] {
+        println!("cargo:rerun-if-env-changed={name}");
+    }
+    match folder() {
+        Ok(folder) => {
+            println!("cargo:rerun-if-changed={}", folder.join(LIBRARY).display());
+            println!("cargo:rustc-link-search=native={}", folder.display());
+            println!("cargo:rustc-link-lib=static=sharing");
+        }
+        Err(reason) => {
+            eprintln!("{reason}");
+            std::process::exit(1);
         }
     }
-    if missing {
-        std::process::exit(1);
+}
+
+/// The folder that was named; else the repository's, if this package stands in it; else the one that was installed.
+fn folder() -> Result<PathBuf, String> {
+    if let Some(named) = env::var_os("SHARING_LIB_DIR").filter(|name| !name.is_empty()).map(PathBuf::from) {
+        // Cargo starts this in the package's folder, and the compiler in another.
+        if named.is_relative() {
+            return Err(format!("SHARING_LIB_DIR is to be the whole path of a folder, and {} is not", named.display()));
+        }
+        if named.join(LIBRARY).exists() {
+            return Ok(named);
+        }
+        return Err(format!("SHARING_LIB_DIR names {}, where no {LIBRARY} is", named.display()));
     }
+    let root = Path::new(&env::var_os("CARGO_MANIFEST_DIR").expect("cargo names the package's folder")).join("../..");
+    let built = root.join("target");
+    if built.join(LIBRARY).exists() {
+        return Ok(built);
+    }
+    if built.join("staticlib/libexports.a").exists() && built.join("staticlib/libarchive_exports.a").exists() {
+        return Err(format!("the proved libraries are built, but not {LIBRARY}: run `make`, or `tools/library`"));
+    }
+    let in_repository = root.join("tools/library").exists();
+    if in_repository {
+        // Once it is built it is to be taken, also where another one is installed.
+        println!("cargo:rerun-if-changed={}", built.join(LIBRARY).display());
+    }
+    if let Some(installed) = installed().filter(|folder| folder.join(LIBRARY).exists()) {
+        return Ok(installed);
+    }
+    if in_repository {
+        return Err(format!(
+            "{LIBRARY} is not built: run `make`, or `tools/library` after `rt staticlib exports` and \
+             `rt staticlib archive_exports`"
+        ));
+    }
+    Err(format!("{LIBRARY} is not installed: install it, or name its folder in SHARING_LIB_DIR"))
+}
+
+/// What pkg-config knows. It is asked for the folder and not for flags, since it leaves out those of the usual folders.
+fn installed() -> Option<PathBuf> {
+    let program = env::var_os("PKG_CONFIG").unwrap_or("pkg-config".into());
+    let told = Command::new(program).args(["--variable=libdir", "sharing"]).output().ok()?;
+    let folder = String::from_utf8(told.stdout).ok()?;
+    let folder = folder.trim();
+    (told.status.success() && !folder.is_empty()).then(|| PathBuf::from(folder))
 }

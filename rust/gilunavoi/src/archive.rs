@@ -12,7 +12,7 @@ pub fn file_length(entries: usize, contents: usize) -> usize {
 /// Writes the entries, which stand in `contents` end to end, and answers the length of the file.
 pub fn write(contents: &[u8], lengths: &[usize], out: &mut [u8]) -> Answer {
     answer(unsafe {
-        boundary::archive_write(
+        boundary::sharing_archive_write(
             contents.as_ptr(),
             contents.len(),
             lengths.as_ptr(),
@@ -25,12 +25,12 @@ pub fn write(contents: &[u8], lengths: &[usize], out: &mut [u8]) -> Answer {
 
 /// How many entries there are.
 pub fn count(file: &[u8]) -> Answer {
-    answer(unsafe { boundary::archive_count(file.as_ptr(), file.len()) })
+    answer(unsafe { boundary::sharing_archive_count(file.as_ptr(), file.len()) })
 }
 
 /// The offset and the length of an entry, or the number of the refusal.
 pub fn place(file: &[u8], number: usize) -> Result<(u64, u64), u64> {
-    let answer = unsafe { boundary::archive_entry(file.as_ptr(), file.len(), number) };
+    let answer = unsafe { boundary::sharing_archive_entry(file.as_ptr(), file.len(), number) };
     unless_refused(answer.refusal, (answer.offset, answer.length), (0, 0))
 }
 

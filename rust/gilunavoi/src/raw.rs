@@ -59,20 +59,20 @@ fn padded_answer(answer: boundary::SharingPaddedAnswer) -> PaddedAnswer {
 }
 
 pub fn add(a: u8, b: u8) -> u8 {
-    unsafe { boundary::gf256_add(a, b) }
+    unsafe { boundary::sharing_gf256_add(a, b) }
 }
 
 pub fn mul(a: u8, b: u8) -> u8 {
-    unsafe { boundary::gf256_mul(a, b) }
+    unsafe { boundary::sharing_gf256_mul(a, b) }
 }
 
 pub fn mul_by_shifting(a: u8, b: u8) -> u8 {
-    unsafe { boundary::gf256_mul_by_shifting(a, b) }
+    unsafe { boundary::sharing_gf256_mul_by_shifting(a, b) }
 }
 
 /// The byte whose product with `a` is 1; 0 has none.
 pub fn inverse(a: u8) -> Option<u8> {
-    let boundary::Gf256InverseAnswer { exists, inverse } = unsafe { boundary::gf256_inverse(a) };
+    let boundary::Gf256InverseAnswer { exists, inverse } = unsafe { boundary::sharing_gf256_inverse(a) };
     match exists {
         1 => Some(u8::try_from(inverse).expect("an inverse is a byte")),
         _ => {

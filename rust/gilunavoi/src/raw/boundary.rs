@@ -83,10 +83,10 @@ pub type SplitFromPoolDefault = unsafe extern "C" fn(
 
 #[rustfmt::skip]
 extern "C" {
-    pub fn gf256_add(a: u8, b: u8) -> u8;
-    pub fn gf256_mul(a: u8, b: u8) -> u8;
-    pub fn gf256_mul_by_shifting(a: u8, b: u8) -> u8;
-    pub fn gf256_inverse(a: u8) -> Gf256InverseAnswer;
+    pub fn sharing_gf256_add(a: u8, b: u8) -> u8;
+    pub fn sharing_gf256_mul(a: u8, b: u8) -> u8;
+    pub fn sharing_gf256_mul_by_shifting(a: u8, b: u8) -> u8;
+    pub fn sharing_gf256_inverse(a: u8) -> Gf256InverseAnswer;
     pub fn sharing_check(n: u8, r: u8, z: u8, counts: *const u8, length: usize) -> SharingScheme;
     pub fn sharing_check_default() -> SharingScheme;
     pub fn sharing_check_tried(n: u8, r: u8, z: u8, counts: *const u8, length: usize) -> SharingTriedScheme;
@@ -176,10 +176,10 @@ extern "C" {
         parties: *const u8, parties_length: usize, shares: *const u8, shares_length: usize,
         party: u8, held: *const u8, held_length: usize, out: *mut u8, out_length: usize,
     ) -> SharingRebuild;
-    pub fn archive_write(
+    pub fn sharing_archive_write(
         contents: *const u8, contents_length: usize, lengths: *const usize, lengths_length: usize,
         out: *mut u8, out_length: usize,
     ) -> SharingAnswer;
-    pub fn archive_count(file: *const u8, file_length: usize) -> SharingAnswer;
-    pub fn archive_entry(file: *const u8, file_length: usize, number: usize) -> ArchiveEntry;
+    pub fn sharing_archive_count(file: *const u8, file_length: usize) -> SharingAnswer;
+    pub fn sharing_archive_entry(file: *const u8, file_length: usize, number: usize) -> ArchiveEntry;
 }
