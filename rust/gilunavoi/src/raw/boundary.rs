@@ -87,9 +87,9 @@ extern "C" {
     pub fn sharing_gf256_mul(a: u8, b: u8) -> u8;
     pub fn sharing_gf256_mul_by_shifting(a: u8, b: u8) -> u8;
     pub fn sharing_gf256_inverse(a: u8) -> Gf256InverseAnswer;
-    pub fn sharing_check(n: u8, r: u8, z: u8, counts: *const u8, length: usize) -> SharingScheme;
+    pub fn sharing_check(n: u8, r: u8, z: u8, counts: *const u8, counts_length: usize) -> SharingScheme;
     pub fn sharing_check_default() -> SharingScheme;
-    pub fn sharing_check_tried(n: u8, r: u8, z: u8, counts: *const u8, length: usize) -> SharingTriedScheme;
+    pub fn sharing_check_tried(n: u8, r: u8, z: u8, counts: *const u8, counts_length: usize) -> SharingTriedScheme;
     pub fn sharing_check_tried_default() -> SharingTriedScheme;
     pub fn sharing_split(
         n: u8, r: u8, z: u8, counts: *const u8, counts_length: usize,
