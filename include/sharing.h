@@ -547,7 +547,8 @@ sharing_archive_entry_answer sharing_archive_entry(const uint8_t *file, size_t f
 /*
  * The old names of these calls and types, for sources from before they had the prefix. Each call is the one
  * with the prefix. In the library the old names are weak: a program that has another function of such a name,
- * and defines SHARING_NO_OLD_NAMES, links and calls its own.
+ * and defines SHARING_NO_OLD_NAMES, links and calls its own. Where that function comes from another library,
+ * name that one before this one to the linker, which takes the first that it finds.
  */
 #ifndef SHARING_NO_OLD_NAMES
 typedef sharing_gf256_inverse_answer gf256_inverse_answer;
