@@ -1,14 +1,13 @@
 //! The commands. Those on archives stand in `archive`, those on pools of keys in `pool_commands`, those that split and open
-//! messages in `split` and `reconstruct`, and those that look after shares in `rebuild`.
+//! messages in `split` and `reconstruct`, those that look after shares in `rebuild`, and that on schemes in `scheme_command`.
 
 use crate::arguments::{paths, usage, Arguments};
 use crate::failure::{Done, Failure};
 use crate::files::{read, Output, Place};
 use crate::form::Form;
-use crate::range::{rows_in_order, Range};
 use crate::report::{counted, say};
 use crate::scheme::Scheme;
-use crate::{archive, help, pool_commands, rebuild, reconstruct, split};
+use crate::{archive, help, pool_commands, rebuild, reconstruct, scheme_command, split};
 use gilunavoi::raw;
 use std::ffi::OsString;
 
@@ -21,7 +20,12 @@ struct Command {
 }
 
 const COMMANDS: [Command; 8] = [
-    Command { name: "scheme", help: help::scheme, options: &["--range", "--first"], run: scheme },
+    Command {
+        name: "scheme",
+        help: help::scheme,
+        options: &["--range", "--first", "--length", "--unpadded"],
+        run: scheme_command::run,
+    },
     Command { name: "pool", help: help::pool, options: &[], run: pool_commands::run },
     Command { name: "split", help: help::split, options: &["--scheme", "--unpadded", "--pool"], run: split::run },
     Command { name: "prefix", help: help::prefix, options: &["--scheme", "--length", "--readers"], run: prefix },
@@ -53,34 +57,6 @@ pub fn run(words: Vec<OsString>) -> Done {
         return say(&(command.help)());
     }
     (command.run)(&Arguments::new(rest, command.options)?)
-}
-
-fn scheme(arguments: &Arguments) -> Done {
-    let range = Range::of(arguments)?;
-    let scheme = Scheme::from_words(arguments.words.iter().map(OsString::as_os_str))?;
-    let block = scheme.check()?;
-    let (needs, columns) = match range {
-        None => (String::new(), ""),
-        Some(range) => (format!(", and what of them the range {range} needs"), "  rows   of  bytes  which rows"),
-    };
-    let mut text = format!(
-        "{scheme}\nA block has {} in {}, and takes {}.\n\
-         Bytes of a block to fetch{needs}:\nparties  from each  in all{columns}\n",
-        counted(block.bytes, "byte"),
-        counted(block.rows, "row"),
-        counted(block.keys(1), "key byte")
-    );
-    for d in scheme.counts.iter().map(|&d| d as usize) {
-        let bytes = block.prefix_of_block(d);
-        text += &format!("{d:7}  {bytes:9}  {:6}", d * bytes);
-        if let Some(range) = range {
-            // A row is a byte of the block from each party.
-            let rows = range.rows(&scheme, &block, d)?;
-            text += &format!("  {rows:4}  {bytes:3}  {:5}  {}", d * rows, rows_in_order(&scheme, &block, d, rows));
-        }
-        text += "\n";
-    }
-    say(&text)
 }
 
 fn prefix(arguments: &Arguments) -> Done {

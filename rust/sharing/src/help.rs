@@ -12,8 +12,8 @@ pub use shares::{check, rebuild};
 const COMMANDS: &str = "\
 sharing splits a message into shares and opens it again from the beginnings of a few of them.
 
-  sharing scheme [S] [--range START..END | --first BYTES]
-      says what a scheme costs, and what a range of a message costs in it
+  sharing scheme [S] [--length L [--unpadded]] [--range START..END | --first BYTES]
+      says what a scheme means and costs, and what a message or a range of one costs in it
   sharing pool new POOL KEYFILE
   sharing pool status POOL
       keeps a pool of keys, of which each byte is used once, and says how many are left
@@ -75,18 +75,27 @@ Input is refused for the first of these reasons that applies, with its number; 1
 pub fn scheme() -> String {
     format!(
         "\
-sharing scheme N,R,Z,D1,D2.. [--range START..END | --first BYTES]
-sharing scheme [--range START..END | --first BYTES]
+sharing scheme N,R,Z,D1,D2.. [--length L [--unpadded]] [--range START..END | --first BYTES]
+sharing scheme [--length L [--unpadded]] [--range START..END | --first BYTES]
 
 Says of a scheme, or of the default one, how long a block is, how many rows it is kept in, how many key
-bytes it takes, and for each count how many bytes of a block each party sends, and all of them together.
+bytes it takes, who learns what of a message, and for each count how many bytes of a block each party sends,
+and all of them together.
 
   N         how many parties there are, 2 to {MAX_PARTIES}
   R         how many may be absent
   Z         how many may put their shares together and learn nothing, at least 1
   D1,D2..   the counts: numbers of parties to read from, falling, the last one N - R
 
-With --range or --first the table goes on: how many of the rows that each party sends are needed for these
+Any N - R parties open a message. More than Z and fewer than N - R learn part of it, and can tell whether a
+guess of all of it is right. Only where Z is N - R - 1 there are none of these, as in Shamir's scheme: where it
+is less, the scheme of as many parties that has this is named, and what it costs.
+
+With --length a second table is of a message of L bytes, and not of a block: before it stand the number of its
+blocks, its key bytes and the bytes of its shares, and beside the bytes to fetch how many times the message
+they are. The message is padded, as split does it; with --unpadded it is of the earlier form.
+
+With --range or --first the first table goes on: how many of the rows that each party sends are needed for these
 bytes of a message, how many bytes of a block those are, from all parties together, and which rows they are, in
 the order in which they are used, numbered from 0. The byte at place P, counted from 0, is the range P..P+1.
 reconstruct --help says more of ranges.

@@ -14,12 +14,14 @@ mod interrupt;
 mod parties;
 mod pool;
 mod pool_commands;
+mod ramp;
 mod range;
 mod rebuild;
 mod reconstruct;
 mod record;
 mod report;
 mod scheme;
+mod scheme_command;
 mod split;
 
 use std::process::ExitCode;

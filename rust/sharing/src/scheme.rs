@@ -3,7 +3,7 @@
 use crate::arguments::{byte_list, usage, Arguments};
 use crate::failure::Failure;
 use gilunavoi::limits::{DEFAULT_COUNTS, DEFAULT_N, DEFAULT_R, DEFAULT_Z};
-use gilunavoi::limits::{FORMER_DEFAULT_COUNTS, FORMER_DEFAULT_N, FORMER_DEFAULT_R, FORMER_DEFAULT_Z};
+use gilunavoi::limits::{FORMER_DEFAULT_COUNTS, FORMER_DEFAULT_N, FORMER_DEFAULT_R, FORMER_DEFAULT_Z, MAX_MESSAGE};
 use gilunavoi::raw;
 use std::ffi::OsStr;
 use std::fmt;
@@ -24,6 +24,16 @@ pub struct Block {
     z: usize,
 }
 
+/// The lengths that a message of some length makes.
+pub struct Lengths {
+    pub blocks: usize,
+    /// The key bytes that it takes.
+    pub keys: usize,
+    /// One share, and the shares of all parties together.
+    pub share: usize,
+    pub output: usize,
+}
+
 /// The scheme of the library's calls without one.
 impl Default for Scheme {
     fn default() -> Scheme {
@@ -39,6 +49,24 @@ impl Scheme {
     /// The default before, of which shares are stored.
     pub fn former_default() -> Scheme {
         Scheme::named(FORMER_DEFAULT_N, FORMER_DEFAULT_R, FORMER_DEFAULT_Z, &FORMER_DEFAULT_COUNTS)
+    }
+
+    /// How many parties open a message, whoever they are. The scheme is accepted.
+    pub fn enough(&self) -> u8 {
+        self.n - self.r
+    }
+
+    /// The scheme of as many parties in which fewer than open a message learn nothing, if this one is accepted and is not
+    /// such a scheme. It has the same counts, or where its block would be too long the last of them alone.
+    pub fn with_shamirs_promise(&self) -> Option<Scheme> {
+        let (n, r, enough) = (self.n, self.r, self.enough());
+        let with = |counts: &[u8]| Scheme::named(n, r, enough - 1, counts);
+        let same_counts = with(&self.counts);
+        match same_counts.check() {
+            _ if self.z == enough - 1 => None,
+            Ok(_) => Some(same_counts),
+            Err(_) => Some(with(&[enough])),
+        }
     }
 
     /// N, R, Z and the counts, in one word or in several; the default scheme where there is none.
@@ -91,10 +119,37 @@ impl Scheme {
             Err(number) => Err(Failure::Refused(number, format!("the scheme is {self}"))),
         }
     }
+
+    /// The lengths of a message of so many bytes, in the earlier form or padded.
+    pub fn lengths(&self, unpadded: bool, length: usize) -> Result<Lengths, Failure> {
+        let block = self.check()?;
+        // All from here on is to be one call of the library, which says these lengths and refuses the message.
+        if length > MAX_MESSAGE {
+            return Err(Failure::Refused(5, format!("--length is {length}")));
+        }
+        let blocks = if unpadded { block.blocks(length) } else { block.padded_blocks(length) };
+        let share = blocks * block.rows;
+        Ok(Lengths { blocks, keys: block.keys(blocks), share, output: self.n as usize * share })
+    }
+
+    /// What of such a message each party sends where d are read from, d one of the counts. The library says it of a share
+    /// of zeros; what is in a share does not change it.
+    pub fn sent(&self, unpadded: bool, length: usize, d: usize) -> Result<usize, Failure> {
+        let share = vec![0; self.lengths(unpadded, length)?.share];
+        let answer = if unpadded {
+            raw::prefix(self.n, self.r, self.z, &self.counts, length, d, &share)
+        } else {
+            raw::prefix_padded(self.n, self.r, self.z, &self.counts, d, &share)
+        };
+        match answer {
+            Ok(bytes) => Ok(bytes as usize),
+            Err(number) => Err(Failure::Refused(number, format!("--length is {length}, and the scheme is {self}"))),
+        }
+    }
 }
 
 /// Numbers with commas between them.
-fn in_a_row(numbers: &[u8]) -> String {
+pub fn in_a_row(numbers: &[u8]) -> String {
     numbers.iter().map(u8::to_string).collect::<Vec<_>>().join(",")
 }
 

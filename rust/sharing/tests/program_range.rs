@@ -77,6 +77,16 @@ struct Cost {
     which: String,
 }
 
+/// The beginning of the table's headings, also without a range.
+const HEADINGS: &str = "parties  from each  in all";
+
+/// What `scheme` says from its table on.
+fn table(folder: &Folder, words: &str) -> String {
+    let said = folder.says(&format!("scheme {words}"));
+    let start = said.find("Bytes of a block to fetch").unwrap_or_else(|| panic!("{words}: {said}"));
+    said[start..].to_string()
+}
+
 /// The lines of that table.
 fn costs(folder: &Folder, scheme: &str, range: &str) -> Vec<Cost> {
     let cost = |line: &str| {
@@ -84,7 +94,7 @@ fn costs(folder: &Folder, scheme: &str, range: &str) -> Vec<Cost> {
         let numbers: Vec<usize> = words[..6].iter().map(|number| number.parse().expect("a number")).collect();
         Cost { numbers: numbers.try_into().expect("six of them"), which: words[6..].join(" ") }
     };
-    folder.says(&format!("scheme {scheme} {range}")).lines().skip(4).map(cost).collect()
+    table(folder, &format!("{scheme} {range}")).lines().skip(2).map(cost).collect()
 }
 
 /// The rows that are named so: numbers, and the first and the last of several.
@@ -474,39 +484,42 @@ fn nothing_is_overwritten() {
 #[test]
 fn tables() {
     let folder = Folder::new("range-tables");
-    let default = "N 5, R 2, Z 2, counts 5,4,3\n\
-        A block has 6 bytes in 6 rows, and takes 12 key bytes.\n\
-        Bytes of a block to fetch, and what of them the range 0..1 needs:\n\
+    let default = "Bytes of a block to fetch, and what of them the range 0..1 needs:\n\
         parties  from each  in all  rows   of  bytes  which rows\n      \
         5          2      10     1    2      5  0\n      \
         4          3      12     2    3      8  2 0\n      \
         3          6      18     5    6     15  3-5 2 0\n";
-    assert_eq!(folder.says("scheme --first 1"), default);
-    assert_eq!(folder.says("scheme --range=0..1 5 2 2 5,4,3"), default);
-    let few_rows = "N 7, R 4, Z 1, counts 7,4,3\n\
-        A block has 6 bytes in 3 rows, and takes 3 key bytes.\n\
-        Bytes of a block to fetch, and what of them the range 8..9 needs:\n\
+    assert_eq!(table(&folder, "--first 1"), default);
+    assert_eq!(table(&folder, "--range=0..1 5 2 2 5,4,3"), default);
+    let few_rows = "Bytes of a block to fetch, and what of them the range 8..9 needs:\n\
         parties  from each  in all  rows   of  bytes  which rows\n      \
         7          1       7     1    1      7  0\n      \
         4          2       8     2    2      8  1 0\n      \
         3          3       9     1    3      3  2\n";
-    assert_eq!(folder.says("scheme 7,4,1,7,4,3 --range 8..9"), few_rows);
-    let long_blocks = "N 9, R 3, Z 1, counts 9,8,7,6\n\
-        A block has 840 bytes in 168 rows, and takes 168 key bytes.\n\
-        Bytes of a block to fetch, and what of them the range 0..80 needs:\n\
+    assert_eq!(table(&folder, "7,4,1,7,4,3 --range 8..9"), few_rows);
+    let long_blocks = "Bytes of a block to fetch, and what of them the range 0..80 needs:\n\
         parties  from each  in all  rows   of  bytes  which rows\n      \
         9        105     945    10  105     90  0-9\n      \
         8        120     960    25  120    200  105-119 0-9\n      \
         7        140     980    45  140    315  120-139 105-119 0-9\n      \
         6        168    1008    73  168    438  140-167 120-139 105-119 0-9\n";
-    assert_eq!(folder.says("scheme --first 80 9 3 1 9,8,7,6"), long_blocks);
-    // Without a range a table has all of this but what is said of the range.
-    for (scheme, table) in [(DEFAULT, default), (FEW_ROWS, few_rows), (LONG_BLOCKS, long_blocks)] {
-        let words = table.lines().take(2).map(str::to_string).chain(["Bytes of a block to fetch:".to_string()]);
-        let columns = table.lines().skip(3).map(|line| line[.."parties  from each  in all".len()].to_string());
-        let without: String = words.chain(columns).map(|line| line + "\n").collect();
-        assert_eq!(folder.says(&format!("scheme {scheme}")), without);
+    assert_eq!(table(&folder, "--first 80 9 3 1 9,8,7,6"), long_blocks);
+    for (scheme, with_range) in [(DEFAULT, default), (FEW_ROWS, few_rows), (LONG_BLOCKS, long_blocks)] {
+        without_a_range(&folder, scheme, with_range);
     }
+}
+
+/// Without a range all is said but what is said of the range.
+fn without_a_range(folder: &Folder, scheme: &str, with_range: &str) {
+    let columns = with_range.lines().skip(1).map(|line| line[..HEADINGS.len()].to_string());
+    let lines = ["Bytes of a block to fetch:".to_string()].into_iter().chain(columns);
+    let without: String = lines.map(|line| line + "\n").collect();
+    assert_eq!(table(folder, scheme), without);
+    let before_it = |words: &str| {
+        let said = folder.says(&format!("scheme {words}"));
+        said[..said.len() - table(folder, words).len()].to_string()
+    };
+    assert_eq!(before_it(scheme), before_it(&format!("{scheme} --first 1")));
 }
 
 /// The rows that are named are those of the other implementation, in its order.
