@@ -12,8 +12,8 @@ pub use shares::{check, rebuild};
 const COMMANDS: &str = "\
 sharing splits a message into shares and opens it again from the beginnings of a few of them.
 
-  sharing scheme [S] [--length L [--unpadded]] [--range START..END | --first BYTES]
-      says what a scheme means and costs, and what a message or a range of one costs in it
+  sharing scheme [S] [--length L [--unpadded]] [--range START..END | --first BYTES] [--picture FILE]
+      says what a scheme means and costs, and what a message or a range of one costs in it, and draws it
   sharing pool new POOL KEYFILE
   sharing pool status POOL
       keeps a pool of keys, of which each byte is used once, and says how many are left
@@ -75,8 +75,8 @@ Input is refused for the first of these reasons that applies, with its number; 1
 pub fn scheme() -> String {
     format!(
         "\
-sharing scheme N,R,Z,D1,D2.. [--length L [--unpadded]] [--range START..END | --first BYTES]
-sharing scheme [--length L [--unpadded]] [--range START..END | --first BYTES]
+sharing scheme N,R,Z,D1,D2.. [--length L [--unpadded]] [--range START..END | --first BYTES] [--picture FILE]
+sharing scheme [--length L [--unpadded]] [--range START..END | --first BYTES] [--picture FILE]
 
 Says of a scheme, or of the default one, how long a block is, how many rows it is kept in, how many key
 bytes it takes, who learns what of a message, and for each count how many bytes of a block each party sends,
@@ -99,6 +99,9 @@ With --range or --first the first table goes on: how many of the rows that each 
 bytes of a message, how many bytes of a block those are, from all parties together, and which rows they are, in
 the order in which they are used, numbered from 0. The byte at place P, counted from 0, is the range P..P+1.
 reconstruct --help says more of ranges.
+
+With --picture the rows of a block are drawn into FILE, as an SVG picture, which every browser shows: what stands in
+each row, what is copied from where, and which rows each party sends. Of many rows only some are drawn.
 
 Spaces may stand for the commas, here and after --scheme. The former default was {former}.
 ",
