@@ -1,5 +1,6 @@
 //! The commands. Those on archives stand in `archive`, those on pools of keys in `pool_commands`, those that split and open
-//! messages in `split` and `reconstruct`, those that look after shares in `rebuild`, and that on schemes in `scheme_command`.
+//! messages in `split` and `reconstruct`, those that look after shares in `rebuild`, and the one on schemes in
+//! `scheme_command`.
 
 use crate::arguments::{paths, usage, Arguments};
 use crate::failure::{Done, Failure};

@@ -1,5 +1,5 @@
-//! The command `scheme`: what a scheme means, and what a block, a message and a range of one cost in it. It
-//! can be drawn too.
+//! The command `scheme`: what a scheme means, and what a block, a message and a range of one cost in it. It also draws the
+//! scheme.
 
 use crate::arguments::{usage, Arguments};
 use crate::failure::{Done, Failure};
