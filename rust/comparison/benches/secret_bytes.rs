@@ -32,8 +32,7 @@ use comparison::cases::rebuild::{changed, RebuildCall};
 use comparison::cases::{length, parties, Call, Form, Scheme, FORMS};
 use comparison::compare::pool::Split;
 use comparison::random::Random;
-use gilunavoi::raw::{KeyPool, NotRebuilt, Rebuilt};
-use gilunavoi::{archive, raw};
+use gilunavoi::raw::{self, archive, KeyPool, NotRebuilt, Rebuilt};
 use std::arch::asm;
 
 const MAKE_UNDEFINED: u64 = 0x4d43_0001;

@@ -4,8 +4,8 @@
 use comparison::cases::archive::{file, WriteCall};
 use comparison::compare::archive::{entry, read, write};
 use comparison::random::Random;
-use gilunavoi::archive;
 use gilunavoi::limits::{MAX_ENTRIES, MAX_OFFSET_OR_LENGTH};
+use gilunavoi::raw::archive;
 
 /// The file that the library writes.
 fn written(contents: &[u8], lengths: &[usize]) -> Vec<u8> {

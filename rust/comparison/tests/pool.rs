@@ -6,7 +6,8 @@ use comparison::cases::{self, accepted, all_schemes, length, Call, Form, Scheme,
 use comparison::compare::pool::{split, split_by};
 use comparison::random::Random;
 use gilunavoi::limits::{MAX_BLOCK, MAX_MESSAGE, MAX_PARTIES};
-use gilunavoi::raw::{Answer, KeyPool, Pool};
+use gilunavoi::raw::{Answer, KeyPool};
+use gilunavoi::{Pool, Refusal};
 use std::collections::{HashMap, VecDeque};
 
 /// One fault for each refusal that there is. For 16 a byte less is lent than the record says; most pools of a run also get
@@ -224,14 +225,16 @@ fn records_that_do_not_fit() {
     });
 }
 
+/// With the types for other programs, whose scheme is refused before a pool is asked for.
 fn by_pool(pool: &mut Pool, call: &Call, by_default: bool, message: &[u8], out: &mut [u8]) -> Answer {
-    let s = &call.scheme;
-    match (call.form, by_default) {
-        (Form::Earlier, false) => pool.split(s.n, s.r, s.z, &s.counts, message, out),
-        (Form::Padded, false) => pool.split_padded(s.n, s.r, s.z, &s.counts, message, out),
-        (Form::Earlier, true) => pool.split_default(message, out),
-        (Form::Padded, true) => pool.split_padded_default(message, out),
-    }
+    let Scheme { n, r, z, ref counts, .. } = call.scheme;
+    let scheme = if by_default { Ok(gilunavoi::Scheme::default()) } else { gilunavoi::Scheme::new(n, r, z, counts) };
+    let form = match call.form {
+        Form::Earlier => gilunavoi::Form::Earlier,
+        Form::Padded => gilunavoi::Form::Padded,
+    };
+    let share = scheme.and_then(|scheme| scheme.split_from_pool(form, pool, message, out));
+    share.map(|share| share as u64).map_err(Refusal::number)
 }
 
 /// The same calls through the type that keeps bytes and record together, stored and resumed now and then.
@@ -265,17 +268,20 @@ fn bytes_and_record_together() {
 #[test]
 fn examples() {
     let mut pool = Pool::resumed(vec![200, 9, 4, 9, 4, 2, 6], 1);
-    let (counts, mut shares) = ([3, 2], [0; 6]);
-    assert_eq!(pool.split(3, 1, 1, &counts, &[5, 7], &mut shares), Ok(2));
+    let scheme = gilunavoi::Scheme::new(3, 1, 1, &[3, 2]).expect("scheme A");
+    let (earlier, padded) = (gilunavoi::Form::Earlier, gilunavoi::Form::Padded);
+    let mut shares = [0; 6];
+    assert_eq!(scheme.split_from_pool(earlier, &mut pool, &[5, 7], &mut shares), Ok(2));
     assert_eq!((shares, pool.left()), ([11, 3, 31, 10, 29, 13], 4));
     let mut shares = [0; 12];
-    assert_eq!(pool.split(3, 1, 1, &counts, &[5, 7, 1], &mut shares), Ok(4));
+    assert_eq!(scheme.split_from_pool(earlier, &mut pool, &[5, 7, 1], &mut shares), Ok(4));
     assert_eq!((&shares[..4], pool.left()), (&[11, 3, 3, 6][..], 0));
-    assert_eq!(pool.split(3, 1, 1, &counts, &[5], &mut shares), Err(16));
-    assert_eq!(pool.split(3, 1, 1, &counts, &[], &mut []), Ok(0));
-    assert_eq!(pool.split_padded(3, 1, 1, &counts, &[], &mut shares), Err(16));
+    assert_eq!(scheme.split_from_pool(earlier, &mut pool, &[5], &mut shares), Err(Refusal::Pool));
+    assert_eq!(scheme.split_from_pool(earlier, &mut pool, &[], &mut []), Ok(0));
+    assert_eq!(scheme.split_from_pool(padded, &mut pool, &[], &mut shares), Err(Refusal::Pool));
     assert_eq!(pool.record(), &KeyPool { length: 7, position: 7 });
     // A position past the end was stored.
     let mut past = Pool::resumed(vec![9, 4], 3);
-    assert_eq!((past.left(), past.split(3, 1, 1, &counts, &[], &mut [])), (0, Err(16)));
+    let refused = scheme.split_from_pool(earlier, &mut past, &[], &mut []);
+    assert_eq!((past.left(), refused), (0, Err(Refusal::Pool)));
 }

@@ -1,8 +1,7 @@
 //! Splits a letter with the default scheme, opens it from the prefixes of several sets of parties, and
 //! prints how few bytes had to be fetched each time.
 
-use gilunavoi::limits::{DEFAULT_N, DEFAULT_R, DEFAULT_Z};
-use gilunavoi::raw;
+use gilunavoi::{Form, Refusal, Scheme};
 use std::error::Error;
 use std::fs::File;
 use std::io::{Read, Write};
@@ -40,52 +39,37 @@ fn drawn_keys(length: usize) -> std::io::Result<Vec<u8>> {
     Ok(keys)
 }
 
-fn refused(number: u64) -> String {
-    format!("refused, number {number}")
+/// The shares, that of party 1 first.
+fn split(scheme: &Scheme, message: &[u8]) -> Result<Vec<Vec<u8>>, Box<dyn Error>> {
+    let keys = drawn_keys(scheme.lengths(Form::Padded, message.len())?.keys)?;
+    Ok(scheme.split_to_shares(Form::Padded, message, &keys)?)
 }
 
-/// The shares, one after another, and the length of one.
-fn split(message: &[u8]) -> Result<(Vec<u8>, usize), Box<dyn Error>> {
-    let (block, rows) = raw::check_default().map_err(refused)?;
-    let blocks = message.len() / block as usize + 1;
-    let share = blocks * rows as usize;
-    let keys = drawn_keys(DEFAULT_Z as usize * share)?;
-    let mut shares = vec![0; DEFAULT_N as usize * share];
-    raw::split_padded_default(message, &keys, &mut shares).map_err(refused)?;
-    Ok((shares, share))
-}
-
-/// Opens the message from what these parties send, knowing nothing of it but the shares; the bytes that each sends, and
-/// those used in all.
-fn open(shares: &[u8], share: usize, parties: &[u8]) -> Result<(Vec<u8>, u64, u64), String> {
-    let mut prefixes = Vec::new();
-    let mut each = 0;
+/// Opens the message from what these parties send, knowing nothing of it but the shares; the bytes that each sends.
+fn open(scheme: &Scheme, shares: &[Vec<u8>], parties: &[u8]) -> Result<(Vec<u8>, usize), Refusal> {
+    let mut sent = Vec::new();
     for &party in parties {
-        let share = &shares[(party as usize - 1) * share..party as usize * share];
-        each = raw::prefix_padded_default(parties.len(), share).map_err(refused)?;
-        prefixes.extend(&share[..each as usize]);
+        sent.push((party, scheme.prefix_padded(parties.len(), &shares[party as usize - 1])?));
     }
-    let (block, rows) = raw::check_default().map_err(refused)?;
-    let mut message = vec![0; share / rows as usize * block as usize];
-    let (used, length) = raw::reconstruct_padded_default(parties, &prefixes, &mut message).map_err(refused)?;
-    message.truncate(length as usize);
-    Ok((message, each, used))
+    Ok((scheme.open(&sent)?, sent[0].1.len()))
 }
 
 fn main() -> Result<(), Box<dyn Error>> {
-    let (shares, share) = split(LETTER.as_bytes())?;
+    let scheme = Scheme::default();
+    let lengths = scheme.lengths(Form::Padded, LETTER.len())?;
+    let shares = split(&scheme, LETTER.as_bytes())?;
     let mut out = std::io::stdout().lock();
-    let parties = format!("{DEFAULT_N} parties: {DEFAULT_R} may be absent, {DEFAULT_Z} may spy");
+    let parties = format!("{} parties: {} may be absent, {} may spy", scheme.n(), scheme.r(), scheme.z());
     writeln!(out, "A letter of {} bytes is kept by {parties}.", LETTER.len())?;
-    writeln!(out, "Each share has {share} bytes, all of them together {}.\n", shares.len())?;
+    writeln!(out, "Each share has {} bytes, all of them together {}.\n", lengths.share, lengths.output)?;
     writeln!(out, "parties    fetched from each  in all")?;
     for parties in READINGS {
-        let (message, each, used) = open(&shares, share, parties)?;
+        let (message, each) = open(&scheme, &shares, parties)?;
         if message != LETTER.as_bytes() {
             return Err(format!("another letter came back from parties {parties:?}").into());
         }
         let names: Vec<String> = parties.iter().map(u8::to_string).collect();
-        writeln!(out, "{:9}  {each:17}  {used:6}", names.join(" "))?;
+        writeln!(out, "{:9}  {each:17}  {:6}", names.join(" "), each * parties.len())?;
     }
     writeln!(out, "\nEach time the letter came back, byte for byte. Its keys were drawn for this run;")?;
     writeln!(out, "nothing that is printed here depends on them.")?;

@@ -1,40 +1,69 @@
-//! Archives, which keep many shares in one file: the proved library over its C boundary. As in `library`, every value
-//! is passed on as it is, and `include/sharing.h` says what an archive is and what each call answers and refuses.
+//! Archives, which keep many shares in one file. Entries are numbered from 0, in the order in which they were given, and
+//! have no names. A list of entries that fits has exactly one archive, and every file that is accepted is the archive of
+//! exactly one list.
+//!
+//! ```
+//! use gilunavoi::archive::{self, Archive};
+//! use gilunavoi::Refusal;
+//!
+//! let file = archive::write(&[b"a share", b"another one"])?;
+//! let archive = Archive::open(&file)?;
+//! assert_eq!(archive.count(), 2);
+//! assert_eq!(archive.entry(1)?, b"another one");
+//! assert_eq!(archive.entry(2), Err(Refusal::NoSuchEntry));
+//! # Ok::<(), Refusal>(())
+//! ```
 
-use crate::raw::{answer, boundary, unless_refused, Answer};
+use crate::raw;
+use crate::refusal::length;
+use crate::Refusal;
 
-/// The length of the archive of so many entries, of so many bytes together: the room that `write` needs. Numbers for which
-/// there is no archive give some length all the same.
-pub fn file_length(entries: usize, contents: usize) -> usize {
-    entries.saturating_mul(4).saturating_add(2).saturating_add(contents)
+/// The archive of these entries. They have at least one byte each, and offsets and lengths have to fit two bytes.
+///
+/// # Errors
+///
+/// [`ArchiveCount`](Refusal::ArchiveCount) if there are too many, [`ArchiveEntries`](Refusal::ArchiveEntries) if they make
+/// no archive.
+pub fn write(entries: &[&[u8]]) -> Result<Vec<u8>, Refusal> {
+    let (contents, lengths): (_, Vec<usize>) = (entries.concat(), entries.iter().map(|entry| entry.len()).collect());
+    let mut file = vec![0; raw::archive::file_length(lengths.len(), contents.len())];
+    length(raw::archive::write(&contents, &lengths, &mut file))?;
+    Ok(file)
 }
 
-/// Writes the entries, which stand in `contents` end to end, and answers the length of the file.
-pub fn write(contents: &[u8], lengths: &[usize], out: &mut [u8]) -> Answer {
-    answer(unsafe {
-        boundary::sharing_archive_write(
-            contents.as_ptr(),
-            contents.len(),
-            lengths.as_ptr(),
-            lengths.len(),
-            out.as_mut_ptr(),
-            out.len(),
-        )
-    })
+/// A file that the library accepted as an archive.
+#[derive(Clone, Copy, Debug, PartialEq, Eq)]
+pub struct Archive<'a> {
+    file: &'a [u8],
+    count: usize,
 }
 
-/// How many entries there are.
-pub fn count(file: &[u8]) -> Answer {
-    answer(unsafe { boundary::sharing_archive_count(file.as_ptr(), file.len()) })
-}
+impl<'a> Archive<'a> {
+    /// Checks the whole file: its count, every pair of offset and length, and its end.
+    ///
+    /// # Errors
+    ///
+    /// [`ArchiveCount`](Refusal::ArchiveCount) and [`ArchiveEntries`](Refusal::ArchiveEntries).
+    pub fn open(file: &'a [u8]) -> Result<Archive<'a>, Refusal> {
+        Ok(Archive { file, count: length(raw::archive::count(file))? })
+    }
 
-/// The offset and the length of an entry, or the number of the refusal.
-pub fn place(file: &[u8], number: usize) -> Result<(u64, u64), u64> {
-    let answer = unsafe { boundary::sharing_archive_entry(file.as_ptr(), file.len(), number) };
-    unless_refused(answer.refusal, (answer.offset, answer.length), (0, 0))
-}
+    /// How many entries there are.
+    pub fn count(&self) -> usize {
+        self.count
+    }
 
-/// An entry: the part of the file itself.
-pub fn entry(file: &[u8], number: usize) -> Result<&[u8], u64> {
-    place(file, number).map(|(offset, length)| &file[offset as usize..][..length as usize])
+    /// The entry of this number, counted from 0: the part of the file itself.
+    ///
+    /// # Errors
+    ///
+    /// [`NoSuchEntry`](Refusal::NoSuchEntry).
+    pub fn entry(&self, number: usize) -> Result<&'a [u8], Refusal> {
+        raw::archive::entry(self.file, number).map_err(Refusal::given)
+    }
+
+    /// All entries in their order. Each is looked up by itself, and every lookup goes over all pairs of the file.
+    pub fn entries(self) -> impl Iterator<Item = &'a [u8]> {
+        (0..self.count).map_while(move |number| self.entry(number).ok())
+    }
 }

@@ -4,8 +4,8 @@ use crate::arguments::{number, paths, usage, Arguments};
 use crate::failure::{Done, Failure};
 use crate::files::{read, Input, Output, Place};
 use crate::report::{counted, note, say};
-use gilunavoi::archive;
 use gilunavoi::limits::{MAX_ENTRIES, MAX_OFFSET_OR_LENGTH};
+use gilunavoi::raw::archive;
 use std::ffi::OsString;
 use std::path::PathBuf;
 

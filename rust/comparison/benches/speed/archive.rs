@@ -2,8 +2,8 @@
 
 use super::measure::Program;
 use comparison::random::Random;
-use gilunavoi::archive;
 use gilunavoi::limits::MAX_ENTRIES;
+use gilunavoi::raw::archive;
 use std::cell::RefCell;
 use std::hint::black_box;
 use std::rc::Rc;

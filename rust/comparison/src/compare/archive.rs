@@ -4,7 +4,7 @@ use super::{written, Agreed, Lent};
 use crate::cases::archive::WriteCall;
 use crate::random::Random;
 use crate::reference;
-use gilunavoi::archive;
+use gilunavoi::raw::archive;
 
 pub fn write(call: &WriteCall, random: &mut Random) -> Agreed {
     let (contents, lengths) = (Lent::of(random, &call.contents), &call.lengths[..]);

@@ -1,4 +1,5 @@
-//! The calls of the C boundary, declared as `include/sharing.h` has them.
+//! The calls of the C boundary, declared as `include/sharing.h` has them. Those that take no pointer can be called with
+//! anything, and are declared so (`safe`).
 
 use super::WEIGHTS;
 
@@ -21,6 +22,16 @@ pub struct SharingTriedScheme {
     pub block: u64,
     pub rows: u64,
     pub tried: u64,
+}
+
+#[repr(C)]
+pub struct SharingLengths {
+    pub refusal: u64,
+    pub blocks: u64,
+    pub keys: u64,
+    pub share: u64,
+    pub output: u64,
+    pub opened: u64,
 }
 
 #[repr(C)]
@@ -56,13 +67,19 @@ pub struct ArchiveEntry {
     pub length: u64,
 }
 
-/// Of a pool of keys: how many bytes it has, and how many of them were taken, from the first on.
+/// The record of a pool of keys, which the calls that split from it read and move. It is not `Clone`: it is kept once, beside
+/// the bytes, and nobody sets it back.
 #[repr(C)]
 #[derive(Debug, PartialEq, Eq)]
 pub struct KeyPool {
+    /// How many bytes the pool was loaded with.
     pub length: usize,
+    /// How many of them were taken, from the first on.
     pub position: usize,
 }
+
+/// The call for the lengths, with a scheme: the same in both forms of message.
+pub type LengthsOf = unsafe extern "C" fn(u8, u8, u8, *const u8, usize, usize) -> SharingLengths;
 
 /// The splitter's call, with a scheme and by default: the same in both forms of message.
 #[rustfmt::skip]
@@ -82,15 +99,23 @@ pub type SplitFromPoolDefault = unsafe extern "C" fn(
 ) -> SharingAnswer;
 
 #[rustfmt::skip]
-extern "C" {
-    pub fn sharing_gf256_add(a: u8, b: u8) -> u8;
-    pub fn sharing_gf256_mul(a: u8, b: u8) -> u8;
-    pub fn sharing_gf256_mul_by_shifting(a: u8, b: u8) -> u8;
-    pub fn sharing_gf256_inverse(a: u8) -> Gf256InverseAnswer;
+unsafe extern "C" {
+    pub safe fn sharing_gf256_add(a: u8, b: u8) -> u8;
+    pub safe fn sharing_gf256_mul(a: u8, b: u8) -> u8;
+    pub safe fn sharing_gf256_mul_by_shifting(a: u8, b: u8) -> u8;
+    pub safe fn sharing_gf256_inverse(a: u8) -> Gf256InverseAnswer;
     pub fn sharing_check(n: u8, r: u8, z: u8, counts: *const u8, counts_length: usize) -> SharingScheme;
-    pub fn sharing_check_default() -> SharingScheme;
+    pub safe fn sharing_check_default() -> SharingScheme;
     pub fn sharing_check_tried(n: u8, r: u8, z: u8, counts: *const u8, counts_length: usize) -> SharingTriedScheme;
-    pub fn sharing_check_tried_default() -> SharingTriedScheme;
+    pub safe fn sharing_check_tried_default() -> SharingTriedScheme;
+    pub fn sharing_lengths(
+        n: u8, r: u8, z: u8, counts: *const u8, counts_length: usize, message_length: usize,
+    ) -> SharingLengths;
+    pub safe fn sharing_lengths_default(message_length: usize) -> SharingLengths;
+    pub fn sharing_lengths_padded(
+        n: u8, r: u8, z: u8, counts: *const u8, counts_length: usize, message_length: usize,
+    ) -> SharingLengths;
+    pub safe fn sharing_lengths_padded_default(message_length: usize) -> SharingLengths;
     pub fn sharing_split(
         n: u8, r: u8, z: u8, counts: *const u8, counts_length: usize,
         message: *const u8, message_length: usize, keys: *const u8, keys_length: usize,

@@ -1,4 +1,4 @@
-//! Splitting with keys from a pool, and a pool that keeps its bytes and its record together.
+//! Splitting with keys from a pool. [`Pool`](crate::Pool) keeps the bytes and the record together, as they have to be.
 
 use super::boundary::{self, KeyPool};
 use super::{answer, Answer};
@@ -16,24 +16,42 @@ fn split_by(
     pool_bytes: &[u8],
     out: &mut [u8],
 ) -> Answer {
-    answer(unsafe {
+    // SAFETY: pointers of slices, with their lengths; `pool` and `out` are borrowed mutably, so they overlap nothing; none
+    // is kept (raw.rs).
+    #[rustfmt::skip]
+    let split = unsafe {
         call(
-            pool,
-            n,
-            r,
-            z,
-            counts.as_ptr(),
-            counts.len(),
-            message.as_ptr(),
-            message.len(),
-            pool_bytes.as_ptr(),
-            pool_bytes.len(),
-            out.as_mut_ptr(),
-            out.len(),
+            pool, n, r, z, counts.as_ptr(), counts.len(), message.as_ptr(), message.len(),
+            pool_bytes.as_ptr(), pool_bytes.len(), out.as_mut_ptr(), out.len(),
         )
+    };
+    answer(split)
+}
+
+/// The same in the default scheme.
+fn split_default_by(
+    call: boundary::SplitFromPoolDefault,
+    pool: &mut KeyPool,
+    message: &[u8],
+    pool_bytes: &[u8],
+    out: &mut [u8],
+) -> Answer {
+    // SAFETY: pointers of slices, with their lengths; `pool` and `out` are borrowed mutably, so they overlap nothing; none
+    // is kept (raw.rs).
+    answer(unsafe {
+        call(pool, message.as_ptr(), message.len(), pool_bytes.as_ptr(), pool_bytes.len(), out.as_mut_ptr(), out.len())
     })
 }
 
+/// Splits a message of the earlier form, as [`split`](super::split) does, with the next keys of a pool: those from the
+/// record's position on, which it moves. A refused call leaves the record as it was.
+///
+/// The caller lends all bytes of the pool each time, and the record as the call before left it: nobody else writes or copies
+/// it, and no byte is used for anything else. [`Pool`](crate::Pool) sees to that.
+///
+/// # Errors
+///
+/// Refusals 1 to 5, 16 and 10, in this order.
 #[allow(clippy::too_many_arguments)]
 pub fn split_from_pool(
     pool: &mut KeyPool,
@@ -48,6 +66,20 @@ pub fn split_from_pool(
     split_by(boundary::sharing_split_from_pool, pool, n, r, z, counts, message, pool_bytes, out)
 }
 
+/// The same in the default scheme.
+///
+/// # Errors
+///
+/// Refusals 5, 16 and 10, in this order.
+pub fn split_from_pool_default(pool: &mut KeyPool, message: &[u8], pool_bytes: &[u8], out: &mut [u8]) -> Answer {
+    split_default_by(boundary::sharing_split_from_pool_default, pool, message, pool_bytes, out)
+}
+
+/// Splits a message that is padded, as [`split_from_pool`] does one of the earlier form.
+///
+/// # Errors
+///
+/// Refusals 1 to 5, 16 and 10, in this order.
 #[allow(clippy::too_many_arguments)]
 pub fn split_padded_from_pool(
     pool: &mut KeyPool,
@@ -63,80 +95,10 @@ pub fn split_padded_from_pool(
 }
 
 /// The same in the default scheme.
-fn split_default_by(
-    call: boundary::SplitFromPoolDefault,
-    pool: &mut KeyPool,
-    message: &[u8],
-    pool_bytes: &[u8],
-    out: &mut [u8],
-) -> Answer {
-    answer(unsafe {
-        call(pool, message.as_ptr(), message.len(), pool_bytes.as_ptr(), pool_bytes.len(), out.as_mut_ptr(), out.len())
-    })
-}
-
-pub fn split_from_pool_default(pool: &mut KeyPool, message: &[u8], pool_bytes: &[u8], out: &mut [u8]) -> Answer {
-    split_default_by(boundary::sharing_split_from_pool_default, pool, message, pool_bytes, out)
-}
-
+///
+/// # Errors
+///
+/// Refusals 5, 16 and 10, in this order.
 pub fn split_padded_from_pool_default(pool: &mut KeyPool, message: &[u8], pool_bytes: &[u8], out: &mut [u8]) -> Answer {
     split_default_by(boundary::sharing_split_padded_from_pool_default, pool, message, pool_bytes, out)
-}
-
-/// The bytes of a pool and its record, which no caller can get apart, write or set back. It is neither `Clone` nor `Copy`:
-/// a copy would take the same bytes again, and who has shares of two messages under the same keys learns from them
-/// something of how the messages differ.
-///
-/// ```compile_fail,E0599
-/// fn twice(pool: gilunavoi::raw::Pool) -> [gilunavoi::raw::Pool; 2] {
-///     [pool.clone(), pool]
-/// }
-/// ```
-///
-/// ```compile_fail,E0382
-/// fn twice(pool: gilunavoi::raw::Pool) -> [gilunavoi::raw::Pool; 2] {
-///     [pool, pool]
-/// }
-/// ```
-pub struct Pool {
-    bytes: Vec<u8>,
-    record: KeyPool,
-}
-
-impl Pool {
-    /// A pool of bytes that were drawn evenly at random and of which none was taken.
-    pub fn new(bytes: Vec<u8>) -> Pool {
-        Pool::resumed(bytes, 0)
-    }
-
-    /// One that was stored: the bytes before the position were taken. If it is past the end, every call refuses it.
-    pub fn resumed(bytes: Vec<u8>, position: usize) -> Pool {
-        Pool { record: KeyPool { length: bytes.len(), position }, bytes }
-    }
-
-    /// What is stored beside the bytes, after every split and before its shares are handed out.
-    pub fn record(&self) -> &KeyPool {
-        &self.record
-    }
-
-    /// How many bytes were not taken.
-    pub fn left(&self) -> usize {
-        self.record.length.saturating_sub(self.record.position)
-    }
-
-    pub fn split(&mut self, n: u8, r: u8, z: u8, counts: &[u8], message: &[u8], out: &mut [u8]) -> Answer {
-        split_from_pool(&mut self.record, n, r, z, counts, message, &self.bytes, out)
-    }
-
-    pub fn split_padded(&mut self, n: u8, r: u8, z: u8, counts: &[u8], message: &[u8], out: &mut [u8]) -> Answer {
-        split_padded_from_pool(&mut self.record, n, r, z, counts, message, &self.bytes, out)
-    }
-
-    pub fn split_default(&mut self, message: &[u8], out: &mut [u8]) -> Answer {
-        split_from_pool_default(&mut self.record, message, &self.bytes, out)
-    }
-
-    pub fn split_padded_default(&mut self, message: &[u8], out: &mut [u8]) -> Answer {
-        split_padded_from_pool_default(&mut self.record, message, &self.bytes, out)
-    }
 }
