@@ -103,3 +103,28 @@ impl fmt::Debug for Pool {
         f.debug_struct("Pool").field("record", &self.record).finish_non_exhaustive()
     }
 }
+
+#[cfg(test)]
+mod tests {
+    use super::*;
+    use crate::{Form, Refusal, Scheme};
+
+    #[test]
+    fn used_keys_are_overwritten() {
+        let scheme = Scheme::new(3, 1, 1, &[3, 2]).expect("a scheme");
+        let mut pool = Pool::resumed((1..=9).collect(), 1);
+        assert_eq!(pool.bytes, [0, 2, 3, 4, 5, 6, 7, 8, 9]);
+        assert_eq!(scheme.split_from_pool(Form::Padded, &mut pool, &[5], &mut [0; 6]), Ok(2));
+        assert_eq!(pool.bytes, [0, 0, 0, 4, 5, 6, 7, 8, 9]);
+        assert_eq!(scheme.split_from_pool(Form::Padded, &mut pool, &[5], &mut [0; 7]), Err(Refusal::OutputLength));
+        assert_eq!(pool.bytes, [0, 0, 0, 4, 5, 6, 7, 8, 9]);
+        assert_eq!(format!("{pool:?}"), "Pool { record: KeyPool { length: 9, position: 3 }, .. }");
+    }
+
+    #[test]
+    fn a_position_past_the_end() {
+        let mut pool = Pool::resumed(vec![9, 4], 3);
+        let refused = Scheme::default().split_from_pool(Form::Earlier, &mut pool, &[], &mut []);
+        assert_eq!((refused, pool.left(), pool.record().position), (Err(Refusal::Pool), 0, 3));
+    }
+}
