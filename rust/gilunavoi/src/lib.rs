@@ -53,7 +53,9 @@
 //!   parties can open to other bytes, and no refusal. Where more than n - r whole shares are at hand,
 //!   [`rebuild`](Scheme::rebuild) notices wrong ones.
 //! - **Memory.** A [`Pool`] overwrites its keys. Keys, messages, shares and prefixes that are lent as slices stay where the
-//!   caller has them, and what is handed back is the caller's to overwrite.
+//!   caller has them, and what is handed back is the caller's to overwrite. The calls that make room of their own,
+//!   [`split_to_shares`](Scheme::split_to_shares), [`open`](Scheme::open) and [`archive::write`], leave copies of shares and
+//!   prefixes in memory that is freed.
 //!
 //! # Linking
 //!

@@ -15,8 +15,8 @@ pub struct Opened {
     pub length: usize,
 }
 
-/// The Lagrange basis of some parties: a row for each place in their list, from which on all is 0, and in it a weight for
-/// each degree.
+/// The Lagrange basis of some parties: a row for each of them, in the order of their list, and in it a weight for each
+/// degree, from 0 on. Rows and weights past the number of parties are 0.
 pub type Basis = [[u8; ROW_OF_WEIGHTS]; ROW_OF_WEIGHTS];
 
 impl Scheme {
