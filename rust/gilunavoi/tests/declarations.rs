@@ -240,10 +240,13 @@ fn fields_of_rust(tokens: &mut Tokens, end: &str) -> Fields {
 fn calls_of_rust(tokens: &mut Tokens, found: &mut Declarations) {
     while !tokens.take("}") {
         tokens.expect("pub");
+        let safe = tokens.take("safe");
         tokens.expect("fn");
         let name = tokens.next();
         tokens.expect("(");
         let parameters = fields_of_rust(tokens, ")");
+        let pointers = parameters.iter().any(|(_, r#type)| !r#type.pointer.is_empty());
+        assert!(!(safe && pointers), "{name} takes a pointer, and is not safe");
         tokens.expect("-");
         tokens.expect(">");
         let answer = type_of_rust(tokens);
