@@ -19,7 +19,7 @@ const LONGEST_MESSAGE: usize = 16384;
 
 /// The sum of the two bit polynomials: bit by bit, modulo 2.
 pub fn add(a: u8, b: u8) -> u8 {
-    (0..8).map(|i| ((a >> i & 1) + (b >> i & 1)) % 2 << i).sum()
+    (0..8).map(|i| (((a >> i & 1) + (b >> i & 1)) % 2) << i).sum()
 }
 
 /// The product of the two bit polynomials, reduced by x^8 + x^4 + x^3 + x + 1.

@@ -43,9 +43,9 @@ fn stored_shares_come_back() {
 /// Who forgets the former default and works in the default scheme.
 #[derive(Clone, Copy, Debug, PartialEq)]
 enum Forgotten {
-    ByAll,
-    ByReaders,
-    ByParties,
+    Everybody,
+    Readers,
+    Parties,
 }
 
 use Forgotten::*;
@@ -54,9 +54,9 @@ impl Forgotten {
     /// The schemes in which the parties cut and the readers open.
     fn schemes(self) -> [Scheme; 2] {
         match self {
-            ByAll => [Scheme::default(), Scheme::default()],
-            ByReaders => [Scheme::former_default(), Scheme::default()],
-            ByParties => [Scheme::default(), Scheme::former_default()],
+            Everybody => [Scheme::default(), Scheme::default()],
+            Readers => [Scheme::former_default(), Scheme::default()],
+            Parties => [Scheme::default(), Scheme::former_default()],
         }
     }
 }
@@ -88,10 +88,10 @@ fn lengths_that_fit_in_the_earlier_form() {
     for length in 0..=MAX_MESSAGE {
         for parties in [&[1, 2, 3][..], &[1, 2, 3, 4], &[1, 2, 3, 4, 5]] {
             let call = Call::new(Form::Earlier, &Scheme::former_default(), length, parties.to_vec());
-            for forgotten in [ByAll, ByReaders, ByParties] {
+            for forgotten in [Everybody, Readers, Parties] {
                 let fits = match (forgotten, call.d) {
-                    (ByAll, _) | (ByReaders | ByParties, 3) => length <= 6,
-                    (ByReaders, 5) => length == 0 || (13..=18).contains(&length),
+                    (Everybody, _) | (Readers | Parties, 3) => length <= 6,
+                    (Readers, 5) => length == 0 || (13..=18).contains(&length),
                     _ => length == 0,
                 };
                 let refusal = opened(&call, &zeros, forgotten).err();
@@ -131,14 +131,14 @@ fn outcome(forgotten: Forgotten, d: usize, length: usize) -> Outcome {
         false => Outcome::End,
     };
     match (forgotten, d) {
-        (ByParties, 3) => Outcome::Right,
+        (Parties, 3) => Outcome::Right,
         (_, 3) => unnoticed(12, &[1, 5, 6, 11]),
-        (ByAll, 4) => unnoticed(12, &[1, 2, 5, 6, 10]),
-        (ByAll, _) => unnoticed(12, &[1, 2, 3, 5, 6, 7]),
-        (ByReaders, 4) if blocks % 3 == 0 => unnoticed(36, &[35]),
-        (ByReaders, 5) if blocks % 2 == 0 => unnoticed(24, &[21, 22, 23]),
-        (ByParties, 4) if blocks % 4 == 0 => unnoticed(48, &[46]),
-        (ByParties, 5) if blocks % 3 == 0 => unnoticed(36, &[28, 29, 30, 31]),
+        (Everybody, 4) => unnoticed(12, &[1, 2, 5, 6, 10]),
+        (Everybody, _) => unnoticed(12, &[1, 2, 3, 5, 6, 7]),
+        (Readers, 4) if blocks.is_multiple_of(3) => unnoticed(36, &[35]),
+        (Readers, 5) if blocks.is_multiple_of(2) => unnoticed(24, &[21, 22, 23]),
+        (Parties, 4) if blocks.is_multiple_of(4) => unnoticed(48, &[46]),
+        (Parties, 5) if blocks.is_multiple_of(3) => unnoticed(36, &[28, 29, 30, 31]),
         _ => Outcome::Length,
     }
 }
@@ -151,7 +151,7 @@ fn padded_messages() {
     let (mut without_end, mut by_chance) = (0, 0);
     for case in 0..100_000 {
         let (length, d) = (case % 288, 3 + random.below(3));
-        let forgotten = [ByAll, ByReaders, ByParties][random.below(3)];
+        let forgotten = [Everybody, Readers, Parties][random.below(3)];
         let call = Call::new(Form::Padded, &Scheme::former_default(), length, parties(&mut random, 5, d as u8));
         let (message, keys, mut shares) = (random.bytes(length), random.bytes(call.keys), vec![0; call.shares]);
         assert_eq!(calls::split(&call, &message, &keys, &mut shares), Ok(call.share as u64));
@@ -165,7 +165,7 @@ fn padded_messages() {
             (Err(11), Outcome::End) => without_end += 1,
             _ => panic!("{words}, and {answer:?}"),
         }
-        if let (Ok(opened), ByAll, 5) = (&answer, forgotten, d) {
+        if let (Ok(opened), Everybody, 5) = (&answer, forgotten, d) {
             let pieces = (0..length).filter(|place| [1, 2, 3, 5, 6, 7].contains(&(place % 12)));
             assert!(pieces.map(|place| message[place]).collect::<Vec<u8>>().starts_with(opened), "{words}");
         }
