@@ -8,8 +8,6 @@ use std::fs;
 // Of what a folder can do, not all is needed here.
 #[allow(dead_code)]
 mod folder;
-// The keys are not needed either.
-#[allow(dead_code)]
 
 const HINT: &str = "the scheme is the default, 5,2,2,5,4,3; shares of the former default need --scheme 5,2,1,5,4,3";
 

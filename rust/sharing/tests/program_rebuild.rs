@@ -12,8 +12,6 @@ use std::os::unix::fs::PermissionsExt;
 #[allow(dead_code)]
 mod folder;
 mod shares_folder;
-// The keys are not needed either.
-#[allow(dead_code)]
 
 const SCHEME: &str =
     "The scheme is the default, 5,2,2,5,4,3; shares of the former default need --scheme 5,2,1,5,4,3.\n";
