@@ -3,11 +3,12 @@
 
 use crate::arguments::{paths, usage, Arguments};
 use crate::failure::{Done, Failure};
-use crate::files::{read, Output, Place};
+use crate::files::read;
 use crate::form::Form;
 use crate::range::{rows_in_order, Range};
 use crate::report::{counted, say};
 use crate::scheme::Scheme;
+use crate::target::Target;
 use crate::{archive, help, pool_commands, rebuild, reconstruct, split};
 use gilunavoi::raw;
 use std::ffi::OsString;
@@ -85,7 +86,7 @@ fn scheme(arguments: &Arguments) -> Done {
 
 fn prefix(arguments: &Arguments) -> Done {
     let [share, out] = paths(&arguments.words, ["SHARE", "OUT"])?;
-    let place = Place::new(&out)?;
+    let target = Target::new(&out)?;
     let (form, d) = (Form::of(arguments)?, arguments.number("--readers")?);
     let scheme = Scheme::of(arguments)?;
     let block = scheme.check()?;
@@ -101,7 +102,7 @@ fn prefix(arguments: &Arguments) -> Done {
         _ => Failure::Refused(number, format!("--readers is {d}, and the scheme is {scheme}")),
     })?;
     let prefix = &share.bytes[..bytes as usize];
-    let output = Output::one_file(&place, prefix)?;
     let (bytes, whole, used) = (counted(prefix.len(), "byte"), share.bytes.len(), scheme.used_by_readers());
-    output.keep(&format!("The prefix, {bytes} of {whole}, is in {out:?}.\nThe scheme is {used}.\n"))
+    let there = target.there();
+    target.put(prefix, &format!("The prefix, {bytes} of {whole}, is {there}.\nThe scheme is {used}.\n"))
 }

@@ -21,6 +21,8 @@ mod record;
 mod report;
 mod scheme;
 mod split;
+mod standard;
+mod target;
 
 use std::process::ExitCode;
 

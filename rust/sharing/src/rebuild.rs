@@ -3,28 +3,29 @@
 
 use crate::arguments::{file_before_parties, usage, Arguments};
 use crate::failure::{Done, Failure};
-use crate::files::{read, Input, Output, Place};
-use crate::parties::{check_equally_long, joined, read_files};
+use crate::files::{read, Input};
+use crate::parties::{check_equally_long, joined, Given};
 use crate::report::{counted, listed, say};
 use crate::scheme::{Block, Scheme};
+use crate::standard::{is_standard, named};
+use crate::target::Target;
 use gilunavoi::limits::MAX_MESSAGE;
 use gilunavoi::raw::{self, NotRebuilt};
 use std::collections::BTreeMap;
-use std::ffi::{OsStr, OsString};
+use std::ffi::OsString;
 use std::path::PathBuf;
 
 pub fn run(arguments: &Arguments) -> Done {
     let Some((out, words)) = arguments.words.split_first() else {
         return usage("needed are OUT and PARTY=FILE, as often as there are shares".to_string());
     };
-    let place = Place::new(file_before_parties(out)?)?;
+    let target = Target::new(file_before_parties(out)?)?;
     let party = arguments.party("--party")?;
     let shares = Shares::new(arguments, words)?;
     let held = arguments.option("--held").map(|path| read(PathBuf::from(path))).transpose()?;
     let (wrong, share) = shares.rebuild(party, held.as_ref())?;
-    let output = Output::one_file(&place, &share)?;
-    let told = [shares.is_in(out, party), told_of(held.as_ref(), wrong), shares.agree(), shares.scheme_used()];
-    output.keep(&told.concat())
+    let told = [shares.is_in(&target, party), told_of(held.as_ref(), wrong), shares.agree(), shares.scheme_used()];
+    target.put(&share, &told.concat())
 }
 
 /// Rebuilds the share of one of the parties, and drops it.
@@ -43,11 +44,12 @@ fn told_of(held: Option<&Input>, wrong: u64) -> String {
     let Some(Input { path, bytes, .. }) = held else {
         return "There was no held copy.\n".to_string();
     };
+    let name = if is_standard(path) { "on standard input".to_string() } else { named(path) };
     match (wrong, counted(bytes.len(), "byte")) {
-        _ if bytes.is_empty() => format!("There was no held copy: {path:?} is empty.\n"),
-        (0, _) => format!("No byte of the held copy {path:?} was wrong.\n"),
-        (1, all) => format!("1 of the {all} of the held copy {path:?} was wrong.\n"),
-        (many, all) => format!("{many} of the {all} of the held copy {path:?} were wrong.\n"),
+        _ if bytes.is_empty() => format!("There was no held copy: {} is empty.\n", named(path)),
+        (0, _) => format!("No byte of the held copy {name} was wrong.\n"),
+        (1, all) => format!("1 of the {all} of the held copy {name} was wrong.\n"),
+        (many, all) => format!("{many} of the {all} of the held copy {name} were wrong.\n"),
     }
 }
 
@@ -65,9 +67,10 @@ struct Shares {
 
 impl Shares {
     fn new(arguments: &Arguments, words: &[OsString]) -> Result<Shares, Failure> {
+        let given = Given::new(arguments, words)?;
         let scheme = Scheme::of(arguments)?;
         let block = scheme.check()?;
-        let (parties, files) = read_files(words)?;
+        let (parties, files) = given.read()?;
         Ok(Shares { scheme, block, parties, files })
     }
 
@@ -135,7 +138,7 @@ impl Shares {
     /// together.
     fn does_not_fit(&self, party: u8) -> String {
         let file = self.parties.iter().zip(&self.files).find(|(other, _)| **other == party);
-        let path = file.map_or(String::new(), |(_, file)| format!(", {:?},", file.path));
+        let path = file.map_or(String::new(), |(_, file)| format!(", {},", named(&file.path)));
         format!(
             "the share of party {party}{path} does not fit the others, which agree without it\n\
              sharing rebuild --party {party} rebuilds it from the others"
@@ -154,9 +157,9 @@ impl Shares {
         format!("{why}\neach file has to be a whole share, and no prefix")
     }
 
-    fn is_in(&self, out: &OsStr, party: u8) -> String {
-        let (bytes, many) = (counted(self.length(), "byte"), self.parties.len());
-        format!("The share of party {party}, {bytes}, is in {out:?}, rebuilt from the shares of {many} parties.\n")
+    fn is_in(&self, target: &Target, party: u8) -> String {
+        let (bytes, many, there) = (counted(self.length(), "byte"), self.parties.len(), target.there());
+        format!("The share of party {party}, {bytes}, is {there}, rebuilt from the shares of {many} parties.\n")
     }
 
     /// What is said of shares that agree.
@@ -185,7 +188,7 @@ impl Shares {
 
     fn same_bytes(&self, places: &[usize]) -> String {
         let parties = listed(places.iter().map(|&place| self.parties[place].to_string()));
-        let paths = listed(places.iter().map(|&place| format!("{:?}", self.files[place].path)));
+        let paths = listed(places.iter().map(|&place| named(&self.files[place].path)));
         format!(
             "The files of the parties {parties}, {paths}, hold the same bytes: possible for shares of one message, but \
              unlikely.\n"

@@ -2,21 +2,22 @@
 
 use crate::arguments::{file_before_parties, usage, Arguments};
 use crate::failure::{Done, Failure};
-use crate::files::{Input, Output, Place};
+use crate::files::Input;
 use crate::form::Form;
-use crate::parties::{check_equally_long, joined, read_files};
+use crate::parties::{check_equally_long, joined, Given};
 use crate::range::{rows_in_order, Range};
 use crate::report::counted;
 use crate::scheme::{Block, Scheme};
+use crate::target::Target;
 use gilunavoi::limits::MAX_MESSAGE;
 use gilunavoi::raw;
-use std::ffi::{OsStr, OsString};
+use std::ffi::OsString;
 
 pub fn run(arguments: &Arguments) -> Done {
     let Some((out, words)) = arguments.words.split_first() else {
         return usage("needed are OUT and PARTY=FILE, as often as there are parties".to_string());
     };
-    let place = Place::new(file_before_parties(out)?)?;
+    let target = Target::new(file_before_parties(out)?)?;
     let opening = Opening::new(arguments, words)?;
     let answer = opening.open();
     // The library sees the prefixes joined: one too long and one too short by as much would pass there. A range of a padded
@@ -25,8 +26,7 @@ pub fn run(arguments: &Arguments) -> Done {
         opening.check_each().map_err(|failure| opening.scheme.suspected(failure))?;
     }
     let opened = answer.map_err(|number| opening.refused(number))?;
-    let output = Output::one_file(&place, &opened.bytes)?;
-    output.keep(&opening.report(&opened, out))
+    target.put(&opened.bytes, &opening.report(&opened, &target))
 }
 
 /// What was opened: the prefix bytes used, the message or the range of it, and whether it is known where the message ends.
@@ -52,9 +52,10 @@ struct Opening {
 impl Opening {
     fn new(arguments: &Arguments, words: &[OsString]) -> Result<Opening, Failure> {
         let (form, range) = (Form::of(arguments)?, Range::of(arguments)?);
+        let given = Given::new(arguments, words)?;
         let scheme = Scheme::of(arguments)?;
         let block = scheme.check()?;
-        let (parties, prefixes) = read_files(words)?;
+        let (parties, prefixes) = given.read()?;
         Ok(Opening { scheme, block, form, range, parties, prefixes })
     }
 
@@ -171,25 +172,24 @@ impl Opening {
     }
 
     /// What is said of the bytes that were opened.
-    fn report(&self, opened: &Opened, out: &OsStr) -> String {
+    fn report(&self, opened: &Opened, target: &Target) -> String {
         let (d, used, scheme) = (self.parties.len(), opened.used, self.scheme.used_by_readers());
         let (told, caution) = match self.range {
             None => {
-                let bytes = counted(opened.bytes.len(), "byte");
-                let told =
-                    format!("The message, {bytes}, is in {out:?}; {used} bytes were fetched from {d} parties.\n");
+                let (bytes, there) = (counted(opened.bytes.len(), "byte"), target.there());
+                let told = format!("The message, {bytes}, is {there}; {used} bytes were fetched from {d} parties.\n");
                 (told, self.form.caution())
             }
-            Some(range) => self.report_on_range(range, opened, out),
+            Some(range) => self.report_on_range(range, opened, target),
         };
         format!("{told}The scheme is {scheme}.\n{caution}\n")
     }
 
-    fn report_on_range(&self, range: Range, opened: &Opened, out: &OsStr) -> (String, &'static str) {
+    fn report_on_range(&self, range: Range, opened: &Opened, target: &Target) -> (String, &'static str) {
         let (d, used, sent) = (self.parties.len(), opened.used, self.sent());
         let last_block = self.blocks().saturating_sub(1) * self.block.bytes;
         let may_be_over = !opened.end_known && range.reaches(last_block);
-        let is_in = range.is_in(out, if may_be_over { "the blocks" } else { "the message" });
+        let is_in = range.is_in(target, if may_be_over { "the blocks" } else { "the message" });
         let rows = self.rows_used(range);
         let told = format!("{is_in}; {used} bytes were used of {sent} in the prefixes of {d} parties, {rows}.\n");
         let end =

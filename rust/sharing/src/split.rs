@@ -6,6 +6,7 @@ use crate::files::{read, Input, Output};
 use crate::pool::{check_no_pool, Pool};
 use crate::report::counted;
 use crate::scheme::{Block, Scheme};
+use crate::standard::{check_folder, check_once};
 use gilunavoi::raw::{self, KeyPool};
 use std::ffi::{OsStr, OsString};
 use std::path::{Path, PathBuf};
@@ -19,6 +20,8 @@ pub fn run(arguments: &Arguments) -> Done {
 
 fn with_key_file(arguments: &Arguments) -> Done {
     let [message, keys, folder] = paths(&arguments.words, ["MESSAGE", "KEYS", "FOLDER"])?;
+    check_folder(&folder, "FOLDER")?;
+    check_once([&message, &keys].map(PathBuf::as_path))?;
     check_no_pool(&keys)?;
     let splitting = Splitting::new(arguments, message)?;
     let shares = splitting.shares(&read(keys)?)?;
@@ -37,6 +40,7 @@ fn from_pool(arguments: &Arguments, pool: &OsStr) -> Done {
         return usage("--pool needs the folder of a pool".to_string());
     }
     let [message, folder] = paths(&arguments.words, ["MESSAGE", "FOLDER"])?;
+    check_folder(&folder, "FOLDER")?;
     let splitting = Splitting::new(arguments, message)?;
     let mut pool = Pool::to_use(pool.as_ref())?;
     pool.make_ready()?;
