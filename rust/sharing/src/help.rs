@@ -9,6 +9,13 @@ mod shares;
 
 pub use shares::{check, rebuild};
 
+/// What every command says that is given PARTY=FILE.
+const MIX_UPS: &str = "\
+One file for two parties is not accepted, be it by links; a copy of a file is another one. Where a file is
+named share-K, or share-K and more after a dot, and given for a party other than K, a note on standard error
+says so: the party may be wrong, or the name.
+";
+
 const COMMANDS: &str = "\
 sharing splits a message into shares and opens it again from the beginnings of a few of them.
 
@@ -195,6 +202,7 @@ this number sent, cut for as many readers as there are parties here; their numbe
 counts. A whole share is the prefix for the last count, and for no other. The parties may stand in any
 order: they are sorted.
 
+{MIX_UPS}
 --length L is for shares of the earlier form, which split --unpadded writes: the message has L bytes.
 
 --range START..END writes only the bytes from START up to END, END not included, counted from 0; --first BYTES

@@ -11,6 +11,7 @@ mod files;
 mod form;
 mod help;
 mod interrupt;
+mod mix_ups;
 mod parties;
 mod pool;
 mod pool_commands;

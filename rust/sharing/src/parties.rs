@@ -3,6 +3,7 @@
 use crate::arguments::{party_and_file, Arguments};
 use crate::failure::{Done, Failure};
 use crate::files::{read, Input};
+use crate::mix_ups;
 use crate::standard::check_once;
 use std::ffi::OsString;
 use std::path::PathBuf;
@@ -11,9 +12,14 @@ use std::path::PathBuf;
 pub struct Given(Vec<(u8, PathBuf)>);
 
 impl Given {
-    pub fn new(arguments: &Arguments, words: &[OsString]) -> Result<Given, Failure> {
-        let files = words.iter().map(|word| party_and_file(word)).collect::<Result<Vec<_>, Failure>>()?;
+    /// `held` is the party whose held copy is given too, if one is.
+    pub fn new(arguments: &Arguments, words: &[OsString], held: Option<u8>) -> Result<Given, Failure> {
+        let mut files = words.iter().map(|word| party_and_file(word)).collect::<Result<Vec<_>, Failure>>()?;
         check_once(arguments.file_options().chain(files.iter().map(|(_, path)| path.as_path())))?;
+        let shares = files.len();
+        files.extend(held.zip(arguments.option("--held").map(PathBuf::from)));
+        mix_ups::check(&files)?;
+        files.truncate(shares);
         Ok(Given(files))
     }
 

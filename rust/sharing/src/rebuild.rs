@@ -4,6 +4,7 @@
 use crate::arguments::{file_before_parties, usage, Arguments};
 use crate::failure::{Done, Failure};
 use crate::files::{read, Input};
+use crate::mix_ups::note_name;
 use crate::parties::{check_equally_long, joined, Given};
 use crate::report::{counted, listed, say};
 use crate::scheme::{Block, Scheme};
@@ -21,7 +22,8 @@ pub fn run(arguments: &Arguments) -> Done {
     };
     let target = Target::new(file_before_parties(out)?)?;
     let party = arguments.party("--party")?;
-    let shares = Shares::new(arguments, words)?;
+    let shares = Shares::new(arguments, words, Some(party))?;
+    note_name(party, out.as_ref());
     let held = arguments.option("--held").map(|path| read(PathBuf::from(path))).transpose()?;
     let (wrong, share) = shares.rebuild(party, held.as_ref())?;
     let told = [shares.is_in(&target, party), told_of(held.as_ref(), wrong), shares.agree(), shares.scheme_used()];
@@ -30,7 +32,7 @@ pub fn run(arguments: &Arguments) -> Done {
 
 /// Rebuilds the share of one of the parties, and drops it.
 pub fn check(arguments: &Arguments) -> Done {
-    let shares = Shares::new(arguments, &arguments.words)?;
+    let shares = Shares::new(arguments, &arguments.words, None)?;
     let Some((&party, own)) = shares.parties.first().zip(shares.files.first()) else {
         return usage("needed is PARTY=FILE, as often as there are shares".to_string());
     };
@@ -66,8 +68,9 @@ struct Shares {
 }
 
 impl Shares {
-    fn new(arguments: &Arguments, words: &[OsString]) -> Result<Shares, Failure> {
-        let given = Given::new(arguments, words)?;
+    /// `wanted` is the party whose share is to be rebuilt, if one is.
+    fn new(arguments: &Arguments, words: &[OsString], wanted: Option<u8>) -> Result<Shares, Failure> {
+        let given = Given::new(arguments, words, wanted)?;
         let scheme = Scheme::of(arguments)?;
         let block = scheme.check()?;
         let (parties, files) = given.read()?;

@@ -52,7 +52,7 @@ struct Opening {
 impl Opening {
     fn new(arguments: &Arguments, words: &[OsString]) -> Result<Opening, Failure> {
         let (form, range) = (Form::of(arguments)?, Range::of(arguments)?);
-        let given = Given::new(arguments, words)?;
+        let given = Given::new(arguments, words, None)?;
         let scheme = Scheme::of(arguments)?;
         let block = scheme.check()?;
         let (parties, prefixes) = given.read()?;

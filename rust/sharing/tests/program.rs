@@ -234,11 +234,7 @@ fn refusals_of_readers(folder: &Folder, unpadded: &str, length: &str) {
     for (parties, number, detail) in [
         (" 1=p1 2=p2", 6, "the parties are [1, 2], and"),
         ("", 6, "the parties are [], and"),
-        (
-            " 1=p1 2=p2 3=p3 4=p4 5=p5 6=p1 7=p2 8=p3 9=p4 10=p5 11=p1 12=p1 13=p1 14=p1 15=p1 16=p1",
-            6,
-            "14, 15, 16], and",
-        ),
+        (&folder.copies("p1", &(1..=16).collect::<Vec<_>>()), 6, "14, 15, 16], and"),
         (" 1=p1 4=p2 3=p3 4=p4", 7, "[1, 3, 4, 4]"),
         (" 0=p1 2=p2 3=p3 4=p4", 7, "[0, 2, 3, 4]"),
         (" 1=p1 2=p2 3=p3 6=p4", 7, "[1, 2, 3, 6]"),
@@ -259,11 +255,13 @@ fn refusals_of_readers_of_padded_messages() {
     folder.refuses("reconstruct out 1=p1 2=p2 3=p3 4=shares/share-4", 9, unequal);
     folder.write("empty", 0);
     folder.refuses("prefix --readers 4 empty out", 9, "2731 blocks, and \"empty\" has 0 bytes");
-    folder.refuses("reconstruct out 1=empty 2=empty 3=empty 4=empty", 9, "2731 blocks, and \"empty\" has 0 bytes");
+    let empty = folder.copies("empty", &[1, 2, 3, 4]);
+    folder.refuses(&format!("reconstruct out{empty}"), 9, "2731 blocks, and \"empty\" has 0 bytes");
     // One block more than the longest message has.
     folder.write("long", 2732 * 6);
     folder.refuses("prefix --readers 3 long out", 9, "2731 blocks, and \"long\" has 16392 bytes");
-    folder.refuses("reconstruct out 1=long 2=long 3=long", 9, "2731 blocks, and \"long\" has 16392 bytes");
+    let long = folder.copies("long", &[1, 2, 3]);
+    folder.refuses(&format!("reconstruct out{long}"), 9, "2731 blocks, and \"long\" has 16392 bytes");
 }
 
 #[test]
@@ -301,9 +299,10 @@ fn no_end() {
     // 3 blocks of 6 bytes: the prefixes for 5 readers are as long as a share of one.
     shares_and_prefixes(&folder, "", 36, "a", b"Call the client.");
     shares_and_prefixes(&folder, "", 36, "b", b"The car is here.");
+    fs::copy(folder.0.join("a-shares/share-4"), folder.0.join("other")).expect("a copy");
     for (options, files, last) in [
         ("", "a-shares/share", "b-shares/share-3"),
-        ("", "a-shares/share", "a-shares/share-4"),
+        ("", "a-shares/share", "other"),
         ("--scheme 4,1,1,4,3 ", "a-shares/share", "a-shares/share-3"),
         ("", "a-shares/short", "a-shares/short-3"),
     ] {

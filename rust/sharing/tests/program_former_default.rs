@@ -8,8 +8,6 @@ use std::fs;
 // Of what a folder can do, not all is needed here.
 #[allow(dead_code)]
 mod folder;
-// The keys are not needed either.
-#[allow(dead_code)]
 
 const HINT: &str = "the scheme is the default, 5,2,2,5,4,3; shares of the former default need --scheme 5,2,1,5,4,3";
 
@@ -66,8 +64,8 @@ fn the_program_without_the_former_default() {
         folder.refuses(&line.replacen(' ', " --scheme 5,2,2,5,4,3 ", 1), number, same);
     }
     // Where the scheme is not in doubt, the former one is not pointed out.
-    for (parties, number) in [("1 2", 6), ("1 2 6", 7)] {
-        let words: String = parties.split(' ').map(|party| format!(" {party}=letter-padded/share-1")).collect();
+    for (parties, number) in [(&[1, 2][..], 6), (&[1, 2, 6], 7)] {
+        let words = folder.copies("letter-padded/share-1", parties);
         let line = format!("reconstruct out{words}");
         folder.refuses(&line, number, "and the scheme is N 5, ");
         assert!(!folder.fails(&line, 1).contains("former default"), "{line}");
@@ -85,7 +83,7 @@ fn the_program_without_the_former_default() {
     let said = folder.says("prefix --readers 5 letter-padded/share-1 out");
     assert!(said.starts_with("The prefix, 6 bytes of 18, is in \"out\".\n") && said.contains(&report), "{said}");
     // Five of these, opened in the former default, look like two of the three blocks.
-    let five: String = (1..=5).map(|party| format!(" {party}=out")).collect();
+    let five = folder.copies("out", &[1, 2, 3, 4, 5]);
     folder.refuses(
         &format!("reconstruct {FORMER_DEFAULT}opened{five}"),
         11,

@@ -1,5 +1,6 @@
 //! What `--help` says of the commands that look after shares.
 
+use super::MIX_UPS;
 use crate::scheme::Scheme;
 
 /// How far a check goes. Both commands make the same.
@@ -48,6 +49,7 @@ exist: where the new share is to stand in the place of the old one, move that aw
 
 It does not matter in which form the message was split: neither its length nor its padding is looked at.
 
+{MIX_UPS}
 {}",
         what_is_checked()
     )
@@ -64,6 +66,7 @@ others. Each FILE is the whole share of the party of this number, no prefix, and
 parties may stand in any order. The message is neither shown nor written. But who has N - R shares in one place can
 open it: do this where the message may be opened, and destroy the copies afterwards.
 
+{MIX_UPS}
 {}",
         what_is_checked()
     )

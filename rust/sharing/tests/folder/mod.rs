@@ -70,6 +70,18 @@ impl Folder {
         fs::write(self.0.join(name), bytes).expect("a written file");
     }
 
+    /// A file for the first of these parties and copies of it for the others, as words: one file for two is refused.
+    #[allow(dead_code)]
+    pub fn copies(&self, name: &str, parties: &[usize]) -> String {
+        let mut words = format!(" {}={name}", parties[0]);
+        for party in &parties[1..] {
+            let copy = format!("{name}-copy{party}");
+            fs::copy(self.0.join(name), self.0.join(&copy)).expect("a copy");
+            words += &format!(" {party}={copy}");
+        }
+        words
+    }
+
     pub fn bytes(&self, name: &str) -> Vec<u8> {
         fs::read(self.0.join(name)).expect("a file")
     }
