@@ -8,7 +8,7 @@ use std::os::unix::ffi::OsStrExt;
 use std::path::{Path, PathBuf};
 
 /// The options that have no value.
-const FLAGS: [&str; 1] = ["--unpadded"];
+const FLAGS: [&str; 2] = ["--unpadded", "--checked"];
 
 /// The options whose value is a file to read.
 const FILES: [&str; 1] = ["--held"];

@@ -24,12 +24,17 @@ struct Command {
 const COMMANDS: [Command; 8] = [
     Command { name: "scheme", help: help::scheme, options: &["--range", "--first"], run: scheme },
     Command { name: "pool", help: help::pool, options: &[], run: pool_commands::run },
-    Command { name: "split", help: help::split, options: &["--scheme", "--unpadded", "--pool"], run: split::run },
+    Command {
+        name: "split",
+        help: help::split,
+        options: &["--scheme", "--unpadded", "--checked", "--pool"],
+        run: split::run,
+    },
     Command { name: "prefix", help: help::prefix, options: &["--scheme", "--length", "--readers"], run: prefix },
     Command {
         name: "reconstruct",
         help: help::reconstruct,
-        options: &["--scheme", "--length", "--range", "--first"],
+        options: &["--scheme", "--length", "--checked", "--range", "--first"],
         run: reconstruct::run,
     },
     Command { name: "rebuild", help: help::rebuild, options: &["--scheme", "--party", "--held"], run: rebuild::run },

@@ -1,9 +1,13 @@
 //! What `--help` says.
 
+use crate::digest::LENGTH as CHECK;
 use crate::failure::refusals;
 use crate::pool::{KEYS, LONGEST, RECORD};
 use crate::scheme::Scheme;
 use gilunavoi::limits::{MAX_ENTRIES, MAX_MESSAGE, MAX_OFFSET_OR_LENGTH, MAX_PARTIES};
+
+/// The longest message that has a check.
+const MAX_CHECKED: usize = MAX_MESSAGE - CHECK;
 
 mod shares;
 
@@ -24,11 +28,12 @@ sharing splits a message into shares and opens it again from the beginnings of a
   sharing pool new POOL KEYFILE
   sharing pool status POOL
       keeps a pool of keys, of which each byte is used once, and says how many are left
-  sharing split [--scheme S] [--unpadded] --pool POOL MESSAGE FOLDER
-  sharing split [--scheme S] [--unpadded] MESSAGE KEYS FOLDER
+  sharing split [--scheme S] [--unpadded] [--checked] --pool POOL MESSAGE FOLDER
+  sharing split [--scheme S] [--unpadded] [--checked] MESSAGE KEYS FOLDER
       writes one share a party
   sharing prefix [--scheme S] [--length L] --readers D SHARE OUT
       cuts out of a share what its party sends when D parties are read from
+  sharing reconstruct [--scheme S] [--length L] [--checked] OUT PARTY=FILE ..
   sharing reconstruct [--scheme S] [--length L] [--range START..END | --first BYTES] OUT PARTY=FILE ..
       opens the message, or a range of it, from what the parties sent
   sharing rebuild [--scheme S] --party P [--held FILE] OUT PARTY=FILE ..
@@ -60,6 +65,7 @@ prefix --help and reconstruct --help say what happens otherwise.
 
 A message is padded before it is split, so that it knows its own end. Shares of the earlier form do not
 know it: split --unpadded writes them, and prefix and reconstruct are told the message's length, L.
+With --checked the SHA-256 of the message is split with it, and reconstruct --checked refuses what does not fit.
 
 This program never draws keys: draw them evenly at random, and keep them as secret as the messages. The
 best way to give them is a pool, which uses each byte once and overwrites it; pool --help says more. Where
@@ -113,8 +119,8 @@ Spaces may stand for the commas, here and after --scheme. The former default was
 pub fn split() -> String {
     format!(
         "\
-sharing split [--scheme N,R,Z,D1,D2..] [--unpadded] --pool POOL MESSAGE FOLDER
-sharing split [--scheme N,R,Z,D1,D2..] [--unpadded] MESSAGE KEYS FOLDER
+sharing split [--scheme N,R,Z,D1,D2..] [--unpadded] [--checked] --pool POOL MESSAGE FOLDER
+sharing split [--scheme N,R,Z,D1,D2..] [--unpadded] [--checked] MESSAGE KEYS FOLDER
 
 Splits the file MESSAGE, of at most {MAX_MESSAGE} bytes, into one share a party: FOLDER/share-1 and so on. The
 folder is made if it does not exist. The message is padded, so that it knows its own end: a byte 128 follows
@@ -123,6 +129,11 @@ it, and zeros up to the end of that byte's block. A message that fills its block
 With --unpadded the shares are of the earlier form: zeros alone, and only where the last block is not
 full. Keep the message's length then, which is printed: it is needed to open the message, and the shares
 do not hold it.
+
+With --checked the SHA-256 of the message, {CHECK} bytes, is put behind it and split with it, so that it is as
+secret as the message: reconstruct --checked then refuses what is not the message that was split. It is
+recommended. The message may have {MAX_CHECKED} bytes, and a length that is printed counts the check. The command
+sha256sum makes it, found by PATH; where it cannot be run, no key is used and nothing is written.
 
 This program never draws keys, and a message takes Z of them for each row of each block. Of two messages under
 the same keys a single party learns something of how they differ, so no key byte may be used a second time.
@@ -194,6 +205,7 @@ L is at most 6.
 pub fn reconstruct() -> String {
     format!(
         "\
+sharing reconstruct [--scheme N,R,Z,D1,D2..] [--length L] [--checked] OUT PARTY=FILE PARTY=FILE ..
 sharing reconstruct [--scheme N,R,Z,D1,D2..] [--length L] [--range START..END | --first BYTES]
                     OUT PARTY=FILE PARTY=FILE ..
 
@@ -203,7 +215,16 @@ counts. A whole share is the prefix for the last count, and for no other. The pa
 order: they are sorted.
 
 {MIX_UPS}
---length L is for shares of the earlier form, which split --unpadded writes: the message has L bytes.
+--length L is for shares of the earlier form, which split --unpadded writes: the message has L bytes, those of a
+check included.
+
+--checked is for a message that was split with --checked, and for the whole of it. The check, its last {CHECK} bytes,
+is taken off and held against the message; where it does not fit, nothing is written and the exit status is 1:
+a false byte, a wrong party, scheme, form, length or number of readers does not pass. Who forgets --checked gets the
+message with {CHECK} bytes more at its end, and no word of it; head -c -{CHECK} takes them off, and sha256sum of what
+is left has to show them. It is no signature: the shares are linear, so parties that know or guess the message, as
+many as are read from less Z, can change their own shares so that a message of their choice opens, with a check
+that fits. More whole shares, and sharing check, can show that.
 
 --range START..END writes only the bytes from START up to END, END not included, counted from 0; --first BYTES
 is --range 0..BYTES. It is for who wants the first lines while the rest is still on its way: not all rows of
@@ -226,7 +247,7 @@ Where not all rows are used nothing of a range is checked, and without --length 
 message ends: the range may go on in the padding, and the report says from which byte on that may be. Where
 all rows are used, the end is looked for as it is for the whole message.
 
-Whether the message is the right one cannot be seen here. A false byte, a wrong party, a prefix that was
+Without --checked it cannot be seen here whether the message is the right one. A false byte, a wrong party, a prefix that was
 cut for another number of readers or a scheme that is not the message's is noticed only if the last block
 then does not end as padding does: false bytes in other blocks always pass, and a false last block may.
 So may a message of the earlier form that is opened without --length: where it ends in a byte 128, or in

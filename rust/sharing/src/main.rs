@@ -6,6 +6,7 @@
 mod archive;
 mod arguments;
 mod commands;
+mod digest;
 mod failure;
 mod files;
 mod form;

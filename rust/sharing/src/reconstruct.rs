@@ -1,6 +1,7 @@
 //! The command `reconstruct`: opens a message, or a range of it, from what the parties sent.
 
 use crate::arguments::{file_before_parties, usage, Arguments};
+use crate::digest;
 use crate::failure::{Done, Failure};
 use crate::files::Input;
 use crate::form::Form;
@@ -25,7 +26,7 @@ pub fn run(arguments: &Arguments) -> Done {
     if matches!((&answer, opening.form), (Ok(_) | Err(9 | 11), _) | (Err(15), Form::Padded)) {
         opening.check_each().map_err(|failure| opening.scheme.suspected(failure))?;
     }
-    let opened = answer.map_err(|number| opening.refused(number))?;
+    let opened = opening.checked_off(answer.map_err(|number| opening.refused(number))?)?;
     target.put(&opened.bytes, &opening.report(&opened, &target))
 }
 
@@ -41,6 +42,8 @@ struct Opening {
     scheme: Scheme,
     block: Block,
     form: Form,
+    /// The message ends in a check.
+    checked: bool,
     /// None where the whole message is wanted.
     range: Option<Range>,
     /// In the order that the library wants: rising.
@@ -52,11 +55,15 @@ struct Opening {
 impl Opening {
     fn new(arguments: &Arguments, words: &[OsString]) -> Result<Opening, Failure> {
         let (form, range) = (Form::of(arguments)?, Range::of(arguments)?);
+        let checked = arguments.flag("--checked");
+        if checked && range.is_some() {
+            return usage("--checked is for a whole message: it cannot stand with --range or --first".to_string());
+        }
         let given = Given::new(arguments, words, None)?;
         let scheme = Scheme::of(arguments)?;
         let block = scheme.check()?;
         let (parties, prefixes) = given.read()?;
-        Ok(Opening { scheme, block, form, range, parties, prefixes })
+        Ok(Opening { scheme, block, form, checked, range, parties, prefixes })
     }
 
     /// The bytes of all prefixes together.
@@ -129,6 +136,17 @@ impl Opening {
         Ok(Opened { used, bytes, end_known })
     }
 
+    /// Takes the check off a message that has one, if it fits.
+    fn checked_off(&self, opened: Opened) -> Result<Opened, Failure> {
+        if !self.checked {
+            return Ok(opened);
+        }
+        match digest::without_check(opened.bytes)? {
+            Some(bytes) => Ok(Opened { bytes, ..opened }),
+            None => Err(Failure::File(format!("{DOES_NOT_FIT}\nthe scheme is {}", self.scheme.used_by_readers()))),
+        }
+    }
+
     /// Refuses the first prefix whose length is none that so many parties send, or is not the others'.
     fn check_each(&self) -> Done {
         let d = self.parties.len();
@@ -178,7 +196,7 @@ impl Opening {
             None => {
                 let (bytes, there) = (counted(opened.bytes.len(), "byte"), target.there());
                 let told = format!("The message, {bytes}, is {there}; {used} bytes were fetched from {d} parties.\n");
-                (told, self.form.caution())
+                (told, if self.checked { CHECKED } else { self.form.caution() })
             }
             Some(range) => self.report_on_range(range, opened, target),
         };
@@ -211,6 +229,12 @@ impl Opening {
         )
     }
 }
+
+const CHECKED: &str = "It is the message that was split: a check of 32 bytes inside it fits.";
+
+const DOES_NOT_FIT: &str = "what was opened is not what was split: the check of 32 bytes at its end does not fit\n\
+                            a share, party, prefix, scheme, form, length or number of readers is wrong, or it was split \
+                            without --checked";
 
 const NOT_CHECKED: &str =
     "Nothing of it could be checked: a wrong scheme, party, prefix, form or number of readers, or a row \

@@ -1,12 +1,14 @@
 //! The command `split`, with keys from a pool or from a file for this one message.
 
 use crate::arguments::{paths, usage, Arguments};
+use crate::digest;
 use crate::failure::{Done, Failure};
 use crate::files::{read, Input, Output};
 use crate::pool::{check_no_pool, Pool};
 use crate::report::counted;
 use crate::scheme::{Block, Scheme};
 use crate::standard::{check_folder, check_once};
+use gilunavoi::limits::MAX_MESSAGE;
 use gilunavoi::raw::{self, KeyPool};
 use std::ffi::{OsStr, OsString};
 use std::path::{Path, PathBuf};
@@ -58,21 +60,26 @@ fn from_pool(arguments: &Arguments, pool: &OsStr) -> Done {
 /// A message that is to be split, and how.
 struct Splitting {
     unpadded: bool,
+    checked: bool,
     scheme: Scheme,
     block: Block,
     message: Input,
+    /// What is split: the message, and its check where one is wanted.
+    contents: Vec<u8>,
 }
 
 impl Splitting {
     fn new(arguments: &Arguments, message: PathBuf) -> Result<Splitting, Failure> {
-        let unpadded = arguments.flag("--unpadded");
+        let [unpadded, checked] = ["--unpadded", "--checked"].map(|flag| arguments.flag(flag));
         let scheme = Scheme::of(arguments)?;
         let block = scheme.check()?;
-        Ok(Splitting { unpadded, scheme, block, message: read(message)? })
+        let message = read(message)?;
+        let contents = if checked { digest::with_check(&message.bytes)? } else { message.bytes.clone() };
+        Ok(Splitting { unpadded, checked, scheme, block, message, contents })
     }
 
     fn blocks(&self) -> usize {
-        let length = self.message.bytes.len();
+        let length = self.contents.len();
         if self.unpadded {
             self.block.blocks(length)
         } else {
@@ -94,10 +101,10 @@ impl Splitting {
         let mut shares = self.room();
         let Scheme { n, r, z, ref counts, .. } = self.scheme;
         let split = if self.unpadded { raw::split } else { raw::split_padded };
-        let answer = split(n, r, z, counts, &self.message.bytes, &keys.bytes, &mut shares);
+        let answer = split(n, r, z, counts, &self.contents, &keys.bytes, &mut shares);
         answer.map_err(|number| match number {
             8 => self.other_keys_needed(8, keys.to_string()),
-            _ => Failure::Refused(number, self.message.to_string()),
+            _ => Failure::Refused(number, self.given()),
         })?;
         Ok(shares)
     }
@@ -107,13 +114,22 @@ impl Splitting {
         let (mut shares, mut record) = (self.room(), pool.record());
         let Scheme { n, r, z, ref counts, .. } = self.scheme;
         let split = if self.unpadded { raw::split_from_pool } else { raw::split_padded_from_pool };
-        let answer = split(&mut record, n, r, z, counts, &self.message.bytes, &pool.keys.bytes, &mut shares);
+        let answer = split(&mut record, n, r, z, counts, &self.contents, &pool.keys.bytes, &mut shares);
         answer.map_err(|number| match number {
             16 if pool.fits() => self.other_keys_needed(16, format!("{:?} has {} left", pool.folder, pool.left())),
             16 => pool.misfit(),
-            _ => Failure::Refused(number, self.message.to_string()),
+            _ => Failure::Refused(number, self.given()),
         })?;
         Ok((shares, record))
+    }
+
+    /// How long the message is, for a refusal.
+    fn given(&self) -> String {
+        let (message, check, most) = (&self.message, digest::LENGTH, MAX_MESSAGE - digest::LENGTH);
+        if self.checked {
+            return format!("{message}, and the check takes {check} more: with --checked a message has at most {most}");
+        }
+        message.to_string()
     }
 
     /// The refusal of keys that are too few, or other than so many.
@@ -136,11 +152,20 @@ impl Splitting {
         let (n, bytes, used) = (self.scheme.n, counted(self.share(), "byte"), self.scheme.used());
         let mut told =
             format!("{n} shares of {bytes} are in {folder:?}, share-1 to share-{n}.\nThe scheme is {used}.\n");
-        if self.unpadded {
-            let length = self.message.bytes.len();
-            told += &format!("Keep the message's length, {length}: it is needed to open the message, ");
-            told += "and the shares do not hold it.\n";
+        if self.checked {
+            told += &format!("A check of {} bytes is split with the message: ", digest::LENGTH);
+            told += "reconstruct --checked looks at it, and takes it off.\n";
         }
-        told
+        told + &self.length_to_keep()
+    }
+
+    /// Of the earlier form the length has to be told; it is that of what was split.
+    fn length_to_keep(&self) -> String {
+        let length = match (self.unpadded, self.checked, self.contents.len()) {
+            (false, ..) => return String::new(),
+            (true, false, length) => format!("message's length, {length}"),
+            (true, true, length) => format!("length, {length}, in which the check is counted"),
+        };
+        format!("Keep the {length}: it is needed to open the message, and the shares do not hold it.\n")
     }
 }

@@ -189,9 +189,9 @@ fn help() {
         assert!(one.contains(&format!("sharing pool {command}\n")), "{one}");
         assert!(all.contains(&format!("  sharing pool {command}\n")), "{all}");
     }
-    assert!(all.contains("sharing split [--scheme S] [--unpadded] --pool POOL MESSAGE FOLDER\n"), "{all}");
+    assert!(all.contains("sharing split [--scheme S] [--unpadded] [--checked] --pool POOL MESSAGE FOLDER\n"), "{all}");
     assert!(
-        split.contains("sharing split [--scheme N,R,Z,D1,D2..] [--unpadded] --pool POOL MESSAGE FOLDER\n"),
+        split.contains("sharing split [--scheme N,R,Z,D1,D2..] [--unpadded] [--checked] --pool POOL MESSAGE FOLDER\n"),
         "{split}"
     );
     assert!(one.contains("recommended") && split.contains("recommended"));
