@@ -11,7 +11,7 @@ use std::path::{Path, PathBuf};
 const FLAGS: [&str; 2] = ["--unpadded", "--checked"];
 
 /// The options whose value is a file to read.
-const FILES: [&str; 1] = ["--held"];
+const FILES: [&str; 2] = ["--held", "--about"];
 
 pub struct Arguments {
     options: Vec<(&'static str, OsString)>,

@@ -11,6 +11,9 @@ use std::thread;
 
 const COMMAND: &str = "sha256sum";
 
+/// What an about file calls the check.
+pub const NAME: &str = "sha256";
+
 /// The bytes of the check.
 pub const LENGTH: usize = 32;
 

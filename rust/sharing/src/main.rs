@@ -3,9 +3,11 @@
 //! sharing, which bytes of a pool come next, and what an archive is, is left to the proved libraries; this program reads
 //! files, names refusals in words and writes files.
 
+mod about;
 mod archive;
 mod arguments;
 mod commands;
+mod date;
 mod digest;
 mod failure;
 mod files;
@@ -25,6 +27,7 @@ mod scheme;
 mod split;
 mod standard;
 mod target;
+mod told;
 
 use std::process::ExitCode;
 

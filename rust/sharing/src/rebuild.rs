@@ -10,6 +10,7 @@ use crate::report::{counted, listed, say};
 use crate::scheme::{Block, Scheme};
 use crate::standard::{is_standard, named};
 use crate::target::Target;
+use crate::told::Told;
 use gilunavoi::limits::MAX_MESSAGE;
 use gilunavoi::raw::{self, NotRebuilt};
 use std::collections::BTreeMap;
@@ -71,7 +72,7 @@ impl Shares {
     /// `wanted` is the party whose share is to be rebuilt, if one is.
     fn new(arguments: &Arguments, words: &[OsString], wanted: Option<u8>) -> Result<Shares, Failure> {
         let given = Given::new(arguments, words, wanted)?;
-        let scheme = Scheme::of(arguments)?;
+        let scheme = Told::of(arguments)?.scheme;
         let block = scheme.check()?;
         let (parties, files) = given.read()?;
         Ok(Shares { scheme, block, parties, files })

@@ -104,13 +104,16 @@ fn the_default_scheme() {
     let (message, keys) = (folder.bytes("message"), folder.bytes("keys"));
     let said = folder.says("split message keys shares");
     assert_eq!(folder.shares("shares"), expected_shares(raw::split_padded_default, &message, &keys));
-    assert!(said.ends_with("\nThe scheme is the default, 5,2,2,5,4,3.\n"), "{said}");
+    let about = |name: &str| {
+        format!("What readers need to know, and nothing secret, is in \"{name}/about\": give it to every party.\n")
+    };
+    assert!(said.ends_with(&format!("\nThe scheme is the default, 5,2,2,5,4,3.\n{}", about("shares"))), "{said}");
     folder.says("split --unpadded message keys unpadded");
     assert_eq!(folder.shares("unpadded"), expected_shares(raw::split_default, &message, &keys));
     // The same scheme, named.
     let said = folder.says("split --scheme 5,2,2,5,4,3 message keys named");
     assert_eq!(folder.shares("named"), folder.shares("shares"));
-    assert!(said.ends_with("\nThe scheme is 5,2,2,5,4,3.\n"), "{said}");
+    assert!(said.ends_with(&format!("\nThe scheme is 5,2,2,5,4,3.\n{}", about("named"))), "{said}");
 }
 
 /// What is said to who takes shares of one form for the other. The message of 24 bytes fills its blocks, so that its
@@ -431,7 +434,11 @@ fn runs_at_once_into_one_folder() {
         let [winner] = winners[..] else { panic!("{winners:?} succeeded") };
         let expected = expected_shares(raw::split_padded_default, &folder.bytes(winner), &folder.bytes("keys"));
         assert_eq!(folder.shares(&shares), expected, "round {round}");
-        assert_eq!(fs::read_dir(folder.0.join(&shares)).expect("a folder").count(), 5, "nothing but the shares");
+        assert_eq!(
+            fs::read_dir(folder.0.join(&shares)).expect("a folder").count(),
+            6,
+            "nothing but the shares and about"
+        );
     }
 }
 
@@ -467,8 +474,8 @@ fn interrupts() {
     let folder = Folder::new("interrupts");
     folder.write("message", MAX_MESSAGE);
     folder.write("keys", MAX_MESSAGE + 1);
-    // The folder and the shares.
-    folder.interrupts("split --scheme 16,14,1,2 message keys shares", "shares", 17, "16 shares");
+    // The folder, the shares and about.
+    folder.interrupts("split --scheme 16,14,1,2 message keys shares", "shares", 18, "16 shares");
 }
 
 #[test]

@@ -363,7 +363,7 @@ fn usage() {
         assert!(said.contains(words) && said.contains("sharing --help"), "{line}: {said}");
     }
     for command in ["", "split ", "reconstruct "] {
-        assert!(folder.says(&format!("{command}--help")).contains("[--checked]"), "{command}");
+        assert!(folder.says(&format!("{command}--help")).contains(" [--checked]"), "{command}");
     }
     let words = folder.says("reconstruct --help").replace('\n', " ");
     assert!(words.contains("head -c -32") && words.contains("It is no signature"), "{words}");

@@ -142,9 +142,9 @@ fn help_and_usage() {
     for (name, words) in [("rebuild", "--party P [--held FILE] OUT PARTY=FILE"), ("check", "PARTY=FILE")] {
         let one = folder.says(&format!("{name} --help"));
         assert_eq!(folder.says(&format!("{name} 1=a -h")), one);
-        assert!(one.starts_with(&format!("sharing {name} [--scheme N,R,Z,D1,D2..] {words} ")), "{one}");
+        assert!(one.starts_with(&format!("sharing {name} [--about FILE | --scheme N,R,Z,D1,D2..] {words} ")), "{one}");
         assert!(one.contains("--scheme 5,2,1,5,4,3") && one.contains("destroy the copies afterwards"), "{one}");
-        assert!(all.contains(&format!("  sharing {name} [--scheme S] {words} ..\n")), "{all}");
+        assert!(all.contains(&format!("  sharing {name} [--about FILE | --scheme S] {words} ..\n")), "{all}");
     }
     for (line, words) in [
         ("rebuild", "needed are OUT and PARTY=FILE, as often as there are shares"),

@@ -14,6 +14,9 @@ extern "C" {
 #[allow(dead_code)]
 pub const FORMER_DEFAULT: &str = "--scheme 5,2,1,5,4,3 ";
 
+/// 17 November 2026, in seconds.
+pub const DAY: &str = "1794900000";
+
 /// A folder that is removed at the end.
 pub struct Folder(pub PathBuf);
 
@@ -24,9 +27,10 @@ impl Folder {
         Folder(path)
     }
 
-    /// The program with the words of a line. What it says is kept.
+    /// The program with the words of a line. What it says is kept. What it writes does not depend on the day.
     pub fn command(&self, line: &str) -> Command {
         let mut command = Command::new(env!("CARGO_BIN_EXE_sharing"));
+        command.env("SOURCE_DATE_EPOCH", DAY);
         command.args(line.split(' ')).current_dir(&self.0).stdout(Stdio::piped()).stderr(Stdio::piped());
         command
     }
