@@ -61,7 +61,7 @@ const EMPTY: &str =
 
 /// Whole shares of some parties.
 struct Shares {
-    scheme: Scheme,
+    told: Told,
     block: Block,
     /// In the order that the library wants: rising.
     parties: Vec<u8>,
@@ -72,10 +72,10 @@ impl Shares {
     /// `wanted` is the party whose share is to be rebuilt, if one is.
     fn new(arguments: &Arguments, words: &[OsString], wanted: Option<u8>) -> Result<Shares, Failure> {
         let given = Given::new(arguments, words, wanted)?;
-        let scheme = Told::of(arguments)?.scheme;
-        let block = scheme.check()?;
+        let told = Told::of(arguments)?;
+        let block = told.scheme.check()?;
         let (parties, files) = given.read()?;
-        Ok(Shares { scheme, block, parties, files })
+        Ok(Shares { told, block, parties, files })
     }
 
     /// The length of a share. All are equally long, or refused.
@@ -85,32 +85,40 @@ impl Shares {
 
     /// How many bytes of the held copy are wrong, and the share of the party.
     fn rebuild(&self, party: u8, held: Option<&Input>) -> Result<(u64, Vec<u8>), Failure> {
-        let Scheme { n, r, z, ref counts, .. } = self.scheme;
+        let Scheme { n, r, z, ref counts, .. } = self.told.scheme;
         let (copy, mut share) = (held.map_or(&[][..], |held| &held.bytes), vec![0; self.length()]);
         let answer = raw::rebuild(n, r, z, counts, &self.parties, &joined(&self.files), party, copy, &mut share);
         if matches!(answer, Ok(_) | Err(NotRebuilt { refusal: 9 | 10 | 18, .. })) {
-            self.check_each().map_err(|failure| self.scheme.suspected(failure))?;
+            self.check_each()?;
         }
         Ok((answer.map_err(|not_rebuilt| self.refused(not_rebuilt, party, held))?, share))
     }
 
     /// Refuses the first share whose length is none that a share has, or is not the others'.
     fn check_each(&self) -> Done {
-        let (rows, most) = (self.block.rows, self.block.padded_blocks(MAX_MESSAGE));
-        for file in &self.files {
-            let blocks = file.bytes.len() / rows;
-            if file.bytes.len() != blocks * rows || blocks > most {
-                let of_a_block = counted(rows, "byte");
-                let detail = format!("a whole share has {of_a_block} for each of at most {most} blocks, and {file}");
-                return Err(Failure::Refused(9, detail));
-            }
+        let wrong = self.files.iter().find_map(|file| self.wrong_length(file));
+        let unequal =
+            || check_equally_long(&self.files, "shares").map_err(|failure| self.told.scheme.suspected(failure));
+        wrong.map_or_else(unequal, Err)
+    }
+
+    /// The refusal of a share that may not be so long. The library does without the form of the message, and so does who
+    /// names none; where the about file tells it, the length has to fit it too.
+    fn wrong_length(&self, file: &Input) -> Option<Failure> {
+        let (rows, bytes) = (self.block.rows, file.bytes.len());
+        if self.told.by_file() {
+            let fits = self.told.form.fits(&self.block, rows, bytes);
+            return (!fits).then(|| self.told.wrong_length(&self.block, rows, "a whole share", file));
         }
-        check_equally_long(&self.files, "shares")
+        let most = self.block.padded_blocks(MAX_MESSAGE);
+        let fits = bytes == bytes / rows * rows && bytes / rows <= most;
+        let needed = format!("a whole share has {} for each of at most {most} blocks", counted(rows, "byte"));
+        (!fits).then(|| self.told.scheme.suspected(Failure::Refused(9, format!("{needed}, and {file}"))))
     }
 
     /// The refusal that the library gave, with what was given.
     fn refused(&self, NotRebuilt { refusal, party: named }: NotRebuilt, party: u8, held: Option<&Input>) -> Failure {
-        let (parties, scheme) = (&self.parties, &self.scheme);
+        let (parties, scheme) = (&self.parties, &self.told.scheme);
         let (length, enough, given) = (counted(self.length(), "byte"), self.enough(), parties.len());
         let detail = match (refusal, named, held) {
             // The list is tested before the party that is wanted.
@@ -124,18 +132,18 @@ impl Shares {
             (18, None, _) => self.why_nobody_is_named(),
             _ => format!("the parties are {parties:?}, and the scheme is {scheme}"),
         };
-        self.scheme.suspected(Failure::Refused(refusal, detail))
+        self.told.scheme.suspected(Failure::Refused(refusal, detail))
     }
 
     /// Whether the parties that lend a share are different ones of the scheme's. They are sorted.
     fn list_is_right(&self) -> bool {
         let different = self.parties.windows(2).all(|pair| pair[0] < pair[1]);
-        different && self.parties.iter().all(|party| (1..=self.scheme.n).contains(party))
+        different && self.parties.iter().all(|party| (1..=self.told.scheme.n).contains(party))
     }
 
     /// So many shares are enough to open the message and to rebuild the others.
     fn enough(&self) -> usize {
-        (self.scheme.n - self.scheme.r) as usize
+        (self.told.scheme.n - self.told.scheme.r) as usize
     }
 
     /// What is said of the party that is named. Its share need not be the wrong one: others may have been made to fit
@@ -150,7 +158,7 @@ impl Shares {
     }
 
     fn why_nobody_is_named(&self) -> String {
-        let (given, needed, n) = (self.parties.len(), self.enough() + 2, self.scheme.n);
+        let (given, needed, n) = (self.parties.len(), self.enough() + 2, self.told.scheme.n);
         let only = if needed > n as usize { format!(", and there are only {n} parties") } else { String::new() };
         let why = if given < needed {
             format!("{given} shares are too few to tell which one does not fit: that takes {needed}{only}")
@@ -172,7 +180,7 @@ impl Shares {
         if many > self.enough() {
             return format!("The {many} shares agree.\n{doubts}");
         }
-        let more = if many < self.scheme.n as usize { " It takes one more to notice a wrong one." } else { "" };
+        let more = if many < self.told.scheme.n as usize { " It takes one more to notice a wrong one." } else { "" };
         format!("Nothing could be checked: {many} shares always agree, right or wrong.{more}\n{doubts}")
     }
 
@@ -212,6 +220,6 @@ impl Shares {
     }
 
     fn scheme_used(&self) -> String {
-        format!("The scheme is {}.\n", self.scheme.used_by_readers())
+        format!("The scheme is {}.\n", self.told.scheme.used_by_readers())
     }
 }

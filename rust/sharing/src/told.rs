@@ -49,6 +49,11 @@ impl Told {
         Ok(Told { scheme: scheme.said_by(&name), form, checked, about: Some(Origin { name, date, label }) })
     }
 
+    /// Is the form told for certain, and not only because no option asks for another?
+    pub fn by_file(&self) -> bool {
+        self.about.is_some()
+    }
+
     /// Where the message ends in what was split, which has this length: before its check.
     pub fn end(&self, length: usize) -> usize {
         length.saturating_sub(if self.checked { digest::LENGTH } else { 0 })

@@ -336,6 +336,31 @@ fn refusals() {
     assert!(said.contains(&format!("cut for 3 readers, and{}", hint.replacen('\n', " ", 1))), "{said}");
 }
 
+/// Whole shares of another length than the file tells, which agree: those of a shorter message, and empty ones.
+#[test]
+fn whole_shares_of_other_messages() {
+    let folder = folder_with_letter("about-whole", &["--unpadded"], 72);
+    folder.put("short", b"five!");
+    folder.put("few-keys", &[3; 12]);
+    folder.says("split --unpadded short few-keys others");
+    folder.put("empty", b"");
+    let (others, empty) = (of(&[1, 2, 3, 4]).replace("shares/", "others/"), folder.copies("empty", &[1, 2, 3, 4]));
+    let needed = "\nwith the length in \"shares/about\", 33, a whole share has 36 bytes, and";
+    for (words, has) in [(&others, "\"others/share-1\" has 6 bytes"), (&empty, "\"empty\" has 0 bytes")] {
+        for command in ["check", "rebuild --party 5 out"] {
+            folder.says(&format!("{command}{words}"));
+            folder.remove("out");
+            let (name, rest) = command.split_once(' ').unwrap_or((command, ""));
+            let line = format!("{name} --about shares/about {rest}{words}").replace("  ", " ");
+            folder.refuses(&line, 9, &format!("{needed} {has}\n\"shares/about\" has to be the file that was written "));
+        }
+    }
+    folder.put("padded", PADDED.as_bytes());
+    let blocks = "a whole share has 6 bytes for each of 1 to 2731 blocks, and \"empty\" has 0 bytes\n";
+    folder.refuses(&format!("check --about padded{empty}"), 9, blocks);
+    folder.says(&format!("check --about padded{others}"));
+}
+
 /// A wrong share, and another message's about file, where it tells of a check.
 #[test]
 fn the_check() {

@@ -47,7 +47,8 @@ N - R shares in one place can open it: do this where the message may be opened, 
 --held FILE is what party P has now. How many of its bytes are wrong is said; the file stays as it is. OUT must not
 exist: where the new share is to stand in the place of the old one, move that away first.
 
-It does not matter in which form the message was split: neither its length nor its padding is looked at.
+It does not matter in which form the message was split: neither its length nor its padding is looked at. But with
+--about the shares must have a length that goes with what that file says.
 
 {ABOUT}
 {MIX_UPS}
