@@ -243,9 +243,12 @@ check included.
 is taken off and held against the message; where it does not fit, nothing is written and the exit status is 1:
 a false byte, a wrong party, scheme, form, length or number of readers does not pass. Who forgets --checked gets the
 message with {CHECK} bytes more at its end, and no word of it; head -c -{CHECK} takes them off, and sha256sum of what
-is left has to show them. It is no signature: the shares are linear, so parties that know or guess the message, as
-many as are read from less Z, can change their own shares so that a message of their choice opens, with a check
-that fits. More whole shares, and sharing check, can show that.
+is left has to show them. Beside --about it is not needed, but who knows that there is a check can ask for it: an
+about file that tells of none is then not accepted.
+
+The check is no signature. Shares are linear: parties that know or guess the message, as many as are read from less
+Z, can change their own shares so that a message of their choice opens, with a check that fits. Whole shares of
+more parties, and sharing check, can show that.
 
 Of a range nothing is held against the check: the report says so where the about file tells of one. The range then
 ends before the check, where it is known where the message ends; where it is not, the report says from which byte

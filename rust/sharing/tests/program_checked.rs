@@ -366,6 +366,6 @@ fn usage() {
         assert!(folder.says(&format!("{command}--help")).contains(" [--checked]"), "{command}");
     }
     let words = folder.says("reconstruct --help").replace('\n', " ");
-    assert!(words.contains("head -c -32") && words.contains("It is no signature"), "{words}");
+    assert!(words.contains("head -c -32") && words.contains("The check is no signature"), "{words}");
     assert!(folder.says("split --help").contains("16352 bytes"));
 }
