@@ -4,7 +4,7 @@ use folder::{text, Folder};
 use shares_folder::{folder_with_shares, of};
 use std::fs;
 use std::io::Write;
-use std::process::{Command, Output, Stdio};
+use std::process::{Output, Stdio};
 
 // Of what a folder can do, not all is needed here.
 #[allow(dead_code)]
@@ -229,11 +229,11 @@ fn closed_and_full() {
         let closed = "sharing: cannot write to standard output: it is closed\n";
         folder.shell_fails(&format!("exec \"$0\" {line} >&-"), closed);
         // The reader is gone before anything is written.
-        let gone = format!("{{ sleep 0.3; \"$0\" {line}; echo $? >&2; }} | :");
-        let output =
-            Command::new("sh").args(["-c", &gone, env!("CARGO_BIN_EXE_sharing")]).current_dir(&folder.0).output();
-        let said = text(&output.expect("a shell").stderr);
-        assert!(said.starts_with("sharing: cannot write to standard output: ") && said.ends_with("\n1\n"), "{said}");
+        let (reader, writer) = std::io::pipe().expect("a pipe");
+        drop(reader);
+        let output = folder.command(line).stdout(writer).output().expect("it runs");
+        assert_eq!(output.status.code(), Some(1), "{line}");
+        assert!(text(&output.stderr).starts_with("sharing: cannot write to standard output: Broken pipe"), "{line}");
     }
     for line in ["split - keys piped", "split --unpadded message - piped", "prefix --readers 3 - -", "pool new pool -"]
     {
