@@ -2,12 +2,14 @@
 
 use crate::arguments::{number, paths, usage, Arguments};
 use crate::failure::{Done, Failure};
-use crate::files::{read, Input, Output, Place};
+use crate::files::{read, Input};
 use crate::report::{counted, note, say};
+use crate::standard::check_once;
+use crate::target::Target;
 use gilunavoi::limits::{MAX_ENTRIES, MAX_OFFSET_OR_LENGTH};
 use gilunavoi::raw::archive;
 use std::ffi::OsString;
-use std::path::PathBuf;
+use std::path::{Path, PathBuf};
 
 pub fn run(arguments: &Arguments) -> Done {
     let Some((action, words)) = arguments.words.split_first() else {
@@ -66,17 +68,17 @@ fn write(words: &[OsString]) -> Done {
     let Some((out, shares)) = words.split_first() else {
         return usage("needed is FILE, and then the shares".to_string());
     };
-    let place = Place::new(out.as_ref())?;
+    let target = Target::new(out.as_ref())?;
+    check_once(shares.iter().map(Path::new))?;
     let Entries { contents, lengths } = Entries::read(shares)?;
     let count = counted(lengths.len(), "entry");
     let mut file = vec![0; archive::file_length(lengths.len(), contents.len())];
     archive::write(&contents, &lengths, &mut file).map_err(|number| Failure::Refused(number, count.clone()))?;
-    let output = Output::one_file(&place, &file)?;
-    let mut told = format!("The archive, {count} in {}, is in {out:?}.\n", counted(file.len(), "byte"));
+    let mut told = format!("The archive, {count} in {}, is {}.\n", counted(file.len(), "byte"), target.there());
     if !lengths.is_empty() {
         told += "Entries are numbered from 0, in the order in which they were given; their names are not kept.\n";
     }
-    output.keep(&told)
+    target.put(&file, &told)
 }
 
 /// How many entries a file has, if it is an archive.
@@ -104,15 +106,14 @@ fn list(words: &[OsString]) -> Done {
 fn entry(words: &[OsString]) -> Done {
     let [file, word, out] = paths(words, ["FILE", "NUMBER", "OUT"])?;
     let number = number(word.as_os_str(), usize::MAX).or_else(|reason| usage(format!("NUMBER: {reason}")))?;
-    let place = Place::new(&out)?;
+    let target = Target::new(&out)?;
     let file = read(file)?;
     let count = count(&file)?;
     let entry = archive::entry(&file.bytes, number).map_err(|refusal| {
         let entries = counted(count, "entry");
         Failure::Refused(refusal, format!("number {number} is asked for, and {file} and {entries}, numbered from 0"))
     })?;
-    let output = Output::one_file(&place, entry)?;
-    output.keep(&format!("Entry {number}, {}, is in {out:?}.\n", counted(entry.len(), "byte")))
+    target.put(entry, &format!("Entry {number}, {}, is {}.\n", counted(entry.len(), "byte"), target.there()))
 }
 
 /// What is wrong with a file that the library has not taken for an archive. It only finds words for that: nothing is

@@ -8,7 +8,10 @@ use std::os::unix::ffi::OsStrExt;
 use std::path::{Path, PathBuf};
 
 /// The options that have no value.
-const FLAGS: [&str; 1] = ["--unpadded"];
+const FLAGS: [&str; 2] = ["--unpadded", "--checked"];
+
+/// The options whose value is a file to read.
+const FILES: [&str; 2] = ["--held", "--about"];
 
 pub struct Arguments {
     options: Vec<(&'static str, OsString)>,
@@ -64,6 +67,11 @@ impl Arguments {
 
     pub fn option(&self, name: &str) -> Option<&OsStr> {
         self.options.iter().find(|(other, _)| *other == name).map(|(_, value)| value.as_os_str())
+    }
+
+    /// The files that options name, all of which are read.
+    pub fn file_options(&self) -> impl Iterator<Item = &Path> {
+        FILES.iter().filter_map(|name| self.option(name)).map(Path::new)
     }
 
     pub fn flag(&self, name: &str) -> bool {

@@ -4,10 +4,13 @@
 
 use crate::arguments::{paths, usage, Arguments};
 use crate::failure::{Done, Failure};
-use crate::files::{read, Output, Place};
+use crate::files::read;
 use crate::form::Form;
 use crate::report::{counted, say};
 use crate::scheme::Scheme;
+use crate::standard::check_once;
+use crate::target::Target;
+use crate::told::Told;
 use crate::{archive, help, pool_commands, rebuild, reconstruct, scheme_command, split};
 use gilunavoi::raw;
 use std::ffi::OsString;
@@ -28,16 +31,31 @@ const COMMANDS: [Command; 8] = [
         run: scheme_command::run,
     },
     Command { name: "pool", help: help::pool, options: &[], run: pool_commands::run },
-    Command { name: "split", help: help::split, options: &["--scheme", "--unpadded", "--pool"], run: split::run },
-    Command { name: "prefix", help: help::prefix, options: &["--scheme", "--length", "--readers"], run: prefix },
+    Command {
+        name: "split",
+        help: help::split,
+        options: &["--scheme", "--unpadded", "--checked", "--label", "--pool"],
+        run: split::run,
+    },
+    Command {
+        name: "prefix",
+        help: help::prefix,
+        options: &["--about", "--scheme", "--length", "--readers"],
+        run: prefix,
+    },
     Command {
         name: "reconstruct",
         help: help::reconstruct,
-        options: &["--scheme", "--length", "--range", "--first"],
+        options: &["--about", "--scheme", "--length", "--checked", "--range", "--first"],
         run: reconstruct::run,
     },
-    Command { name: "rebuild", help: help::rebuild, options: &["--scheme", "--party", "--held"], run: rebuild::run },
-    Command { name: "check", help: help::check, options: &["--scheme"], run: rebuild::check },
+    Command {
+        name: "rebuild",
+        help: help::rebuild,
+        options: &["--about", "--scheme", "--party", "--held"],
+        run: rebuild::run,
+    },
+    Command { name: "check", help: help::check, options: &["--about", "--scheme"], run: rebuild::check },
     Command { name: "archive", help: help::archive, options: &[], run: archive::run },
 ];
 
@@ -62,23 +80,24 @@ pub fn run(words: Vec<OsString>) -> Done {
 
 fn prefix(arguments: &Arguments) -> Done {
     let [share, out] = paths(&arguments.words, ["SHARE", "OUT"])?;
-    let place = Place::new(&out)?;
-    let (form, d) = (Form::of(arguments)?, arguments.number("--readers")?);
-    let scheme = Scheme::of(arguments)?;
-    let block = scheme.check()?;
+    let target = Target::new(&out)?;
+    let d = arguments.number("--readers")?;
+    check_once(arguments.file_options().chain([share.as_path()]))?;
+    let told = Told::of(arguments)?;
+    let block = told.scheme.check()?;
     let share = read(share)?;
-    let Scheme { n, r, z, ref counts, .. } = scheme;
-    let answer = match form {
+    let Scheme { n, r, z, ref counts, .. } = told.scheme;
+    let answer = match told.form {
         Form::Padded => raw::prefix_padded(n, r, z, counts, d, &share.bytes),
         Form::Told(length) => raw::prefix(n, r, z, counts, length, d, &share.bytes),
     };
-    let bytes = answer.map_err(|number| match (number, form) {
-        (5, Form::Told(length)) => Failure::Refused(5, format!("--length is {length}")),
-        (9, _) => scheme.suspected(form.wrong_length(&block, block.rows, "a share", &share)),
-        _ => Failure::Refused(number, format!("--readers is {d}, and the scheme is {scheme}")),
+    let bytes = answer.map_err(|number| match (number, told.form) {
+        (5, Form::Told(length)) => Failure::Refused(5, told.length(length)),
+        (9, _) => told.wrong_length(&block, block.rows, "a share", &share),
+        _ => Failure::Refused(number, format!("--readers is {d}, and the scheme is {}", told.scheme)),
     })?;
     let prefix = &share.bytes[..bytes as usize];
-    let output = Output::one_file(&place, prefix)?;
-    let (bytes, whole, used) = (counted(prefix.len(), "byte"), share.bytes.len(), scheme.used_by_readers());
-    output.keep(&format!("The prefix, {bytes} of {whole}, is in {out:?}.\nThe scheme is {used}.\n"))
+    let (bytes, whole, used) = (counted(prefix.len(), "byte"), share.bytes.len(), told.scheme.used_by_readers());
+    let there = target.there();
+    target.put(prefix, &format!("The prefix, {bytes} of {whole}, is {there}.\nThe scheme is {used}.\n"))
 }

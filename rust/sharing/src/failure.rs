@@ -13,7 +13,7 @@ pub enum Failure {
     Usage(String),
     /// A library refused: the number, and what was given or is needed.
     Refused(u64, String),
-    /// A file could not be read or written.
+    /// A file could not be read or written, or what was read is not what it has to be.
     File(String),
     /// The signal of this number came while files were being written.
     Interrupted(i32),

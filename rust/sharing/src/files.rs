@@ -4,6 +4,7 @@ use crate::arguments::usage;
 use crate::failure::{Done, Failure};
 use crate::interrupt;
 use crate::report::{counted, say};
+use crate::standard;
 use std::ffi::OsString;
 use std::fmt;
 use std::fs::{self, DirBuilder, File, OpenOptions};
@@ -27,13 +28,17 @@ pub fn read(path: PathBuf) -> Result<Input, Failure> {
     read_up_to(LONGEST, path)
 }
 
+/// Reads a file, or standard input where the path is `-`.
 pub fn read_up_to(longest: usize, path: PathBuf) -> Result<Input, Failure> {
+    if standard::is_standard(&path) {
+        return read_opened(longest, standard::input()?, path);
+    }
     let file = File::open(&path).map_err(|error| failed("read", &path, &error))?;
     read_opened(longest, &file, path)
 }
 
 /// Reads a file that is opened already, under this path.
-pub fn read_opened(longest: usize, file: &File, path: PathBuf) -> Result<Input, Failure> {
+pub fn read_opened(longest: usize, file: impl Read, path: PathBuf) -> Result<Input, Failure> {
     let mut bytes = Vec::new();
     match file.take(longest as u64 + 1).read_to_end(&mut bytes) {
         Ok(_) => Ok(Input { path, bytes, longest }),
@@ -50,17 +55,17 @@ impl Input {
 /// How long it is.
 impl fmt::Display for Input {
     fn fmt(&self, f: &mut fmt::Formatter) -> fmt::Result {
-        let path = &self.path;
+        let name = standard::named(&self.path);
         if self.is_too_long() {
-            write!(f, "{path:?} has more than {}", counted(self.longest, "byte"))
+            write!(f, "{name} has more than {}", counted(self.longest, "byte"))
         } else {
-            write!(f, "{path:?} has {}", counted(self.bytes.len(), "byte"))
+            write!(f, "{name} has {}", counted(self.bytes.len(), "byte"))
         }
     }
 }
 
 pub fn failed(action: &str, path: &Path, error: &io::Error) -> Failure {
-    Failure::File(format!("cannot {action} {path:?}: {error}"))
+    Failure::File(format!("cannot {action} {}: {error}", standard::named(path)))
 }
 
 /// A pipe in the place of a file would be waited for. One that is not there is left to whoever opens it.

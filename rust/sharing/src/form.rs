@@ -2,8 +2,6 @@
 
 use crate::arguments::Arguments;
 use crate::failure::Failure;
-use crate::files::Input;
-use crate::report::counted;
 use crate::scheme::Block;
 use gilunavoi::limits::MAX_MESSAGE;
 
@@ -18,14 +16,6 @@ pub enum Form {
 impl Form {
     pub fn of(arguments: &Arguments) -> Result<Form, Failure> {
         Ok(arguments.number_if_given("--length")?.map_or(Form::Padded, Form::Told))
-    }
-
-    /// What helps who mixed up the two.
-    pub fn hint(self) -> &'static str {
-        match self {
-            Form::Padded => "shares of the earlier form, which split --unpadded writes, need --length",
-            Form::Told(_) => "--length is for shares of the earlier form, which split --unpadded writes",
-        }
     }
 
     /// What is not known of a message that was opened.
@@ -49,20 +39,5 @@ impl Form {
             }
             Form::Told(length) => bytes == block.blocks(length) * of_a_block,
         }
-    }
-
-    /// The refusal of a file that may not be so long.
-    pub fn wrong_length(self, block: &Block, of_a_block: usize, what: &str, file: &Input) -> Failure {
-        let needed = match self {
-            Form::Padded => {
-                let most = block.padded_blocks(MAX_MESSAGE);
-                format!("{what} has {} for each of 1 to {most} blocks", counted(of_a_block, "byte"))
-            }
-            Form::Told(length) => {
-                let bytes = counted(block.blocks(length) * of_a_block, "byte");
-                format!("with --length {length} {what} has {bytes}")
-            }
-        };
-        Failure::Refused(9, format!("{needed}, and {file}\n{}", self.hint()))
     }
 }

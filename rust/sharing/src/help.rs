@@ -1,13 +1,32 @@
 //! What `--help` says.
 
+use crate::about::LONGEST_LABEL;
+use crate::digest::LENGTH as CHECK;
 use crate::failure::refusals;
 use crate::pool::{KEYS, LONGEST, RECORD};
 use crate::scheme::Scheme;
 use gilunavoi::limits::{MAX_ENTRIES, MAX_MESSAGE, MAX_OFFSET_OR_LENGTH, MAX_PARTIES};
 
+/// The longest message that has a check.
+const MAX_CHECKED: usize = MAX_MESSAGE - CHECK;
+
 mod shares;
 
 pub use shares::{check, rebuild};
+
+/// What every command says that reads shares.
+const ABOUT: &str = "\
+--about FILE is the file that split wrote beside the shares, about: it says all of the scheme, the form, the length
+and the check, so that --scheme and --length cannot stand with it. It is taken only as split writes it, but for
+lines that end in CR and LF; anything else in it is refused, with the line. A file of a later version is refused.
+";
+
+/// What every command says that is given PARTY=FILE.
+const MIX_UPS: &str = "\
+One file for two parties is not accepted, be it by links; a copy of a file is another one. Where a file is
+named share-K, or share-K and more after a dot, and given for a party other than K, a note on standard error
+says so: the party may be wrong, or the name.
+";
 
 const COMMANDS: &str = "\
 sharing splits a message into shares and opens it again from the beginnings of a few of them.
@@ -17,16 +36,17 @@ sharing splits a message into shares and opens it again from the beginnings of a
   sharing pool new POOL KEYFILE
   sharing pool status POOL
       keeps a pool of keys, of which each byte is used once, and says how many are left
-  sharing split [--scheme S] [--unpadded] --pool POOL MESSAGE FOLDER
-  sharing split [--scheme S] [--unpadded] MESSAGE KEYS FOLDER
-      writes one share a party
-  sharing prefix [--scheme S] [--length L] --readers D SHARE OUT
+  sharing split [--scheme S] [--unpadded] [--checked] [--label TEXT] --pool POOL MESSAGE FOLDER
+  sharing split [--scheme S] [--unpadded] [--checked] [--label TEXT] MESSAGE KEYS FOLDER
+      writes one share a party, and what readers need to know into a file about
+  sharing prefix [--about FILE | [--scheme S] [--length L]] --readers D SHARE OUT
       cuts out of a share what its party sends when D parties are read from
-  sharing reconstruct [--scheme S] [--length L] [--range START..END | --first BYTES] OUT PARTY=FILE ..
+  sharing reconstruct [--about FILE | [--scheme S] [--length L] [--checked]] OUT PARTY=FILE ..
+  sharing reconstruct [--about FILE | [--scheme S] [--length L]] [--range START..END | --first BYTES] OUT PARTY=FILE ..
       opens the message, or a range of it, from what the parties sent
-  sharing rebuild [--scheme S] --party P [--held FILE] OUT PARTY=FILE ..
+  sharing rebuild [--about FILE | --scheme S] --party P [--held FILE] OUT PARTY=FILE ..
       makes a party's share anew out of whole shares, and says how much of a held copy is wrong
-  sharing check [--scheme S] PARTY=FILE ..
+  sharing check [--about FILE | --scheme S] PARTY=FILE ..
       says whether whole shares agree, which one does not fit the others, and how many more may be lost
   sharing archive write FILE [SHARE ..]
   sharing archive list FILE
@@ -53,6 +73,11 @@ prefix --help and reconstruct --help say what happens otherwise.
 
 A message is padded before it is split, so that it knows its own end. Shares of the earlier form do not
 know it: split --unpadded writes them, and prefix and reconstruct are told the message's length, L.
+With --checked the SHA-256 of the message is split with it, and reconstruct --checked refuses what does not fit.
+
+Beside the shares split writes a small file, about, that says how they were split: the scheme, the form and, where
+it is needed, the length, whether there is a check, the day and a label. Nothing in it is secret: give it to every
+party. Who gives it to prefix, reconstruct, rebuild or check, with --about, has nothing else to remember or to type.
 
 This program never draws keys: draw them evenly at random, and keep them as secret as the messages. The
 best way to give them is a pool, which uses each byte once and overwrites it; pool --help says more. Where
@@ -62,6 +87,12 @@ Files are written whole or not at all, for their owner's eyes only, and none is 
 pool. That holds on Ctrl-C and on the signals TERM and HUP too. What cannot be caught, such as KILL or a power
 cut, can leave some of the files, and files named .NAME.NUMBER.part: they are as secret as what was to be
 written, and for you to remove.
+
+In the place of a file to read, - is standard input, once in a command line. In the place of OUT, and of the FILE
+of archive write, it is standard output: nothing else is written there, and the report goes to standard error. As
+with a file nothing is written before all of it is known to be right; but who reads from a pipe that stays empty
+sees only by the exit status that it failed. A file of that name is given as ./-, and a folder too.
+
 The exit status is 0 when all went well, 1 when the input was refused or a file could not be read or
 written, and 2 when the command line cannot be understood. A signal ends the program as it ends others.
 
@@ -112,16 +143,27 @@ Spaces may stand for the commas, here and after --scheme. The former default was
 pub fn split() -> String {
     format!(
         "\
-sharing split [--scheme N,R,Z,D1,D2..] [--unpadded] --pool POOL MESSAGE FOLDER
-sharing split [--scheme N,R,Z,D1,D2..] [--unpadded] MESSAGE KEYS FOLDER
+sharing split [--scheme N,R,Z,D1,D2..] [--unpadded] [--checked] [--label TEXT] --pool POOL MESSAGE FOLDER
+sharing split [--scheme N,R,Z,D1,D2..] [--unpadded] [--checked] [--label TEXT] MESSAGE KEYS FOLDER
 
 Splits the file MESSAGE, of at most {MAX_MESSAGE} bytes, into one share a party: FOLDER/share-1 and so on. The
 folder is made if it does not exist. The message is padded, so that it knows its own end: a byte 128 follows
 it, and zeros up to the end of that byte's block. A message that fills its blocks takes one block more.
 
+FOLDER/about says how it was split, in lines of text: the scheme, the form and, with --unpadded, the length, the
+check, today's date in UTC, or that of SOURCE_DATE_EPOCH where that is set, and the label. It holds nothing that
+depends on what is in the message or on the keys, and no digest of a share. Give it to every party: the other
+commands take it with --about. --label TEXT puts a name into it, of 1 to {LONGEST_LABEL} bytes, without control
+characters and line ends. The label is not hidden from anybody: let it tell nothing that is secret.
+
 With --unpadded the shares are of the earlier form: zeros alone, and only where the last block is not
-full. Keep the message's length then, which is printed: it is needed to open the message, and the shares
-do not hold it.
+full. Keep the message's length then, which is printed and stands in FOLDER/about: it is needed to open the
+message, and the shares do not hold it.
+
+With --checked the SHA-256 of the message, {CHECK} bytes, is put behind it and split with it, so that it is as
+secret as the message: reconstruct --checked then refuses what is not the message that was split. It is
+recommended. The message may have {MAX_CHECKED} bytes, and a length that is printed counts the check. The command
+sha256sum makes it, found by PATH; where it cannot be run, no key is used and nothing is written.
 
 This program never draws keys, and a message takes Z of them for each row of each block. Of two messages under
 the same keys a single party learns something of how they differ, so no key byte may be used a second time.
@@ -173,13 +215,14 @@ encrypted as a whole: that helps wherever old bytes are left on it.
 pub fn prefix() -> String {
     format!(
         "\
-sharing prefix [--scheme N,R,Z,D1,D2..] [--length L] --readers D SHARE OUT
+sharing prefix [--about FILE | [--scheme N,R,Z,D1,D2..] [--length L]] --readers D SHARE OUT
 
 Writes into OUT what a party sends when D parties are read from: the beginning of its whole share, the
 file SHARE. D is one of the scheme's counts.
 
+{ABOUT}
 --length L is for shares of the earlier form, which split --unpadded writes: L is the length of the
-message, and the share must have the length that goes with it.
+message, a check included, and the share must have the length that goes with it.
 
 A share of the former default, one that was split without a scheme while that was {former}, needs
 --scheme {former}. Without it the prefix of a padded message's share is cut too short where 4 or 5
@@ -193,7 +236,9 @@ L is at most 6.
 pub fn reconstruct() -> String {
     format!(
         "\
-sharing reconstruct [--scheme N,R,Z,D1,D2..] [--length L] [--range START..END | --first BYTES]
+sharing reconstruct [--about FILE | [--scheme N,R,Z,D1,D2..] [--length L] [--checked]]
+                    OUT PARTY=FILE PARTY=FILE ..
+sharing reconstruct [--about FILE | [--scheme N,R,Z,D1,D2..] [--length L]] [--range START..END | --first BYTES]
                     OUT PARTY=FILE PARTY=FILE ..
 
 Opens a message and writes it into OUT, without its padding. Each FILE is the prefix that the party of
@@ -201,7 +246,25 @@ this number sent, cut for as many readers as there are parties here; their numbe
 counts. A whole share is the prefix for the last count, and for no other. The parties may stand in any
 order: they are sorted.
 
---length L is for shares of the earlier form, which split --unpadded writes: the message has L bytes.
+{MIX_UPS}
+{ABOUT}
+--length L is for shares of the earlier form, which split --unpadded writes: the message has L bytes, those of a
+check included.
+
+--checked is for a message that was split with --checked, and for the whole of it. The check, its last {CHECK} bytes,
+is taken off and held against the message; where it does not fit, nothing is written and the exit status is 1:
+a false byte, a wrong party, scheme, form, length or number of readers does not pass. Who forgets --checked gets the
+message with {CHECK} bytes more at its end, and no word of it; head -c -{CHECK} takes them off, and sha256sum of what
+is left has to show them. Beside --about it is not needed, but who knows that there is a check can ask for it: an
+about file that tells of none is then not accepted.
+
+The check is no signature. Shares are linear: parties that know or guess the message, as many as are read from less
+Z, can change their own shares so that a message of their choice opens, with a check that fits. Whole shares of
+more parties, and sharing check, can show that.
+
+Of a range nothing is held against the check: the report says so where the about file tells of one. The range then
+ends before the check, where it is known where the message ends; where it is not, the report says from which byte
+on the check may be.
 
 --range START..END writes only the bytes from START up to END, END not included, counted from 0; --first BYTES
 is --range 0..BYTES. It is for who wants the first lines while the rest is still on its way: not all rows of
@@ -224,9 +287,9 @@ Where not all rows are used nothing of a range is checked, and without --length 
 message ends: the range may go on in the padding, and the report says from which byte on that may be. Where
 all rows are used, the end is looked for as it is for the whole message.
 
-Whether the message is the right one cannot be seen here. A false byte, a wrong party, a prefix that was
-cut for another number of readers or a scheme that is not the message's is noticed only if the last block
-then does not end as padding does: false bytes in other blocks always pass, and a false last block may.
+Without --checked it cannot be seen here whether the message is the right one. A false byte, a wrong party, a
+prefix that was cut for another number of readers or a scheme that is not the message's is noticed only if the
+last block then does not end as padding does: false bytes in other blocks always pass, and a false last block may.
 So may a message of the earlier form that is opened without --length: where it ends in a byte 128, or in
 128 and zeros, what stands before that byte is taken for the whole message.
 With --length nothing is noticed, a wrong L included, as long as the lengths fit, and so it is of a range for

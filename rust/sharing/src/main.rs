@@ -3,14 +3,18 @@
 //! sharing, which bytes of a pool come next, and what an archive is, is left to the proved libraries; this program reads
 //! files, names refusals in words and writes files.
 
+mod about;
 mod archive;
 mod arguments;
 mod commands;
+mod date;
+mod digest;
 mod failure;
 mod files;
 mod form;
 mod help;
 mod interrupt;
+mod mix_ups;
 mod parties;
 mod picture;
 mod pool;
@@ -25,6 +29,9 @@ mod rows;
 mod scheme;
 mod scheme_command;
 mod split;
+mod standard;
+mod target;
+mod told;
 
 use std::process::ExitCode;
 

@@ -4,9 +4,9 @@ use crate::arguments::{bounds, usage, Arguments};
 use crate::failure::Failure;
 use crate::report::counted;
 use crate::scheme::{Block, Scheme};
+use crate::target::Target;
 use gilunavoi::limits::MAX_MESSAGE;
 use gilunavoi::raw;
-use std::ffi::OsStr;
 use std::fmt;
 
 /// The bytes from `start` up to `end`, which is not one of them. They are counted from 0.
@@ -70,14 +70,15 @@ impl Range {
         }
     }
 
-    /// For a report: which bytes of what are in a file.
-    pub fn is_in(&self, file: &OsStr, of: &str) -> String {
+    /// For a report: which bytes of what are where.
+    pub fn is_in(&self, target: &Target, of: &str) -> String {
+        let there = target.there();
         match self.length() {
-            0 => format!("The range {self} is empty, and so is {file:?}"),
-            1 => format!("Byte {} of {of} is in {file:?}", self.start),
+            0 => format!("The range {self} is empty, and so is {target}"),
+            1 => format!("Byte {} of {of} is {there}", self.start),
             many => {
                 let (last, bytes) = (self.end - 1, counted(many, "byte"));
-                format!("Bytes {} to {last} of {of}, {bytes}, are in {file:?}", self.start)
+                format!("Bytes {} to {last} of {of}, {bytes}, are {there}", self.start)
             }
         }
     }

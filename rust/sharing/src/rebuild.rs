@@ -3,33 +3,37 @@
 
 use crate::arguments::{file_before_parties, usage, Arguments};
 use crate::failure::{Done, Failure};
-use crate::files::{read, Input, Output, Place};
-use crate::parties::{check_equally_long, joined, read_files};
+use crate::files::{read, Input};
+use crate::mix_ups::note_name;
+use crate::parties::{check_equally_long, joined, Given};
 use crate::report::{counted, listed, say};
 use crate::scheme::{Block, Scheme};
+use crate::standard::{is_standard, named};
+use crate::target::Target;
+use crate::told::Told;
 use gilunavoi::limits::MAX_MESSAGE;
 use gilunavoi::raw::{self, NotRebuilt};
 use std::collections::BTreeMap;
-use std::ffi::{OsStr, OsString};
+use std::ffi::OsString;
 use std::path::PathBuf;
 
 pub fn run(arguments: &Arguments) -> Done {
     let Some((out, words)) = arguments.words.split_first() else {
         return usage("needed are OUT and PARTY=FILE, as often as there are shares".to_string());
     };
-    let place = Place::new(file_before_parties(out)?)?;
+    let target = Target::new(file_before_parties(out)?)?;
     let party = arguments.party("--party")?;
-    let shares = Shares::new(arguments, words)?;
+    let shares = Shares::new(arguments, words, Some(party))?;
+    note_name(party, out.as_ref());
     let held = arguments.option("--held").map(|path| read(PathBuf::from(path))).transpose()?;
     let (wrong, share) = shares.rebuild(party, held.as_ref())?;
-    let output = Output::one_file(&place, &share)?;
-    let told = [shares.is_in(out, party), told_of(held.as_ref(), wrong), shares.agree(), shares.scheme_used()];
-    output.keep(&told.concat())
+    let told = [shares.is_in(&target, party), told_of(held.as_ref(), wrong), shares.agree(), shares.scheme_used()];
+    target.put(&share, &told.concat())
 }
 
 /// Rebuilds the share of one of the parties, and drops it.
 pub fn check(arguments: &Arguments) -> Done {
-    let shares = Shares::new(arguments, &arguments.words)?;
+    let shares = Shares::new(arguments, &arguments.words, None)?;
     let Some((&party, own)) = shares.parties.first().zip(shares.files.first()) else {
         return usage("needed is PARTY=FILE, as often as there are shares".to_string());
     };
@@ -43,11 +47,12 @@ fn told_of(held: Option<&Input>, wrong: u64) -> String {
     let Some(Input { path, bytes, .. }) = held else {
         return "There was no held copy.\n".to_string();
     };
+    let name = if is_standard(path) { "on standard input".to_string() } else { named(path) };
     match (wrong, counted(bytes.len(), "byte")) {
-        _ if bytes.is_empty() => format!("There was no held copy: {path:?} is empty.\n"),
-        (0, _) => format!("No byte of the held copy {path:?} was wrong.\n"),
-        (1, all) => format!("1 of the {all} of the held copy {path:?} was wrong.\n"),
-        (many, all) => format!("{many} of the {all} of the held copy {path:?} were wrong.\n"),
+        _ if bytes.is_empty() => format!("There was no held copy: {} is empty.\n", named(path)),
+        (0, _) => format!("No byte of the held copy {name} was wrong.\n"),
+        (1, all) => format!("1 of the {all} of the held copy {name} was wrong.\n"),
+        (many, all) => format!("{many} of the {all} of the held copy {name} were wrong.\n"),
     }
 }
 
@@ -56,7 +61,7 @@ const EMPTY: &str =
 
 /// Whole shares of some parties.
 struct Shares {
-    scheme: Scheme,
+    told: Told,
     block: Block,
     /// In the order that the library wants: rising.
     parties: Vec<u8>,
@@ -64,11 +69,13 @@ struct Shares {
 }
 
 impl Shares {
-    fn new(arguments: &Arguments, words: &[OsString]) -> Result<Shares, Failure> {
-        let scheme = Scheme::of(arguments)?;
-        let block = scheme.check()?;
-        let (parties, files) = read_files(words)?;
-        Ok(Shares { scheme, block, parties, files })
+    /// `wanted` is the party whose share is to be rebuilt, if one is.
+    fn new(arguments: &Arguments, words: &[OsString], wanted: Option<u8>) -> Result<Shares, Failure> {
+        let given = Given::new(arguments, words, wanted)?;
+        let told = Told::of(arguments)?;
+        let block = told.scheme.check()?;
+        let (parties, files) = given.read()?;
+        Ok(Shares { told, block, parties, files })
     }
 
     /// The length of a share. All are equally long, or refused.
@@ -78,32 +85,40 @@ impl Shares {
 
     /// How many bytes of the held copy are wrong, and the share of the party.
     fn rebuild(&self, party: u8, held: Option<&Input>) -> Result<(u64, Vec<u8>), Failure> {
-        let Scheme { n, r, z, ref counts, .. } = self.scheme;
+        let Scheme { n, r, z, ref counts, .. } = self.told.scheme;
         let (copy, mut share) = (held.map_or(&[][..], |held| &held.bytes), vec![0; self.length()]);
         let answer = raw::rebuild(n, r, z, counts, &self.parties, &joined(&self.files), party, copy, &mut share);
         if matches!(answer, Ok(_) | Err(NotRebuilt { refusal: 9 | 10 | 18, .. })) {
-            self.check_each().map_err(|failure| self.scheme.suspected(failure))?;
+            self.check_each()?;
         }
         Ok((answer.map_err(|not_rebuilt| self.refused(not_rebuilt, party, held))?, share))
     }
 
     /// Refuses the first share whose length is none that a share has, or is not the others'.
     fn check_each(&self) -> Done {
-        let (rows, most) = (self.block.rows, self.block.padded_blocks(MAX_MESSAGE));
-        for file in &self.files {
-            let blocks = file.bytes.len() / rows;
-            if file.bytes.len() != blocks * rows || blocks > most {
-                let of_a_block = counted(rows, "byte");
-                let detail = format!("a whole share has {of_a_block} for each of at most {most} blocks, and {file}");
-                return Err(Failure::Refused(9, detail));
-            }
+        let wrong = self.files.iter().find_map(|file| self.wrong_length(file));
+        let unequal =
+            || check_equally_long(&self.files, "shares").map_err(|failure| self.told.scheme.suspected(failure));
+        wrong.map_or_else(unequal, Err)
+    }
+
+    /// The refusal of a share that may not be so long. The library does without the form of the message, and so does who
+    /// names none; where the about file tells it, the length has to fit it too.
+    fn wrong_length(&self, file: &Input) -> Option<Failure> {
+        let (rows, bytes) = (self.block.rows, file.bytes.len());
+        if self.told.by_file() {
+            let fits = self.told.form.fits(&self.block, rows, bytes);
+            return (!fits).then(|| self.told.wrong_length(&self.block, rows, "a whole share", file));
         }
-        check_equally_long(&self.files, "shares")
+        let most = self.block.padded_blocks(MAX_MESSAGE);
+        let fits = bytes == bytes / rows * rows && bytes / rows <= most;
+        let needed = format!("a whole share has {} for each of at most {most} blocks", counted(rows, "byte"));
+        (!fits).then(|| self.told.scheme.suspected(Failure::Refused(9, format!("{needed}, and {file}"))))
     }
 
     /// The refusal that the library gave, with what was given.
     fn refused(&self, NotRebuilt { refusal, party: named }: NotRebuilt, party: u8, held: Option<&Input>) -> Failure {
-        let (parties, scheme) = (&self.parties, &self.scheme);
+        let (parties, scheme) = (&self.parties, &self.told.scheme);
         let (length, enough, given) = (counted(self.length(), "byte"), self.enough(), parties.len());
         let detail = match (refusal, named, held) {
             // The list is tested before the party that is wanted.
@@ -117,25 +132,25 @@ impl Shares {
             (18, None, _) => self.why_nobody_is_named(),
             _ => format!("the parties are {parties:?}, and the scheme is {scheme}"),
         };
-        self.scheme.suspected(Failure::Refused(refusal, detail))
+        self.told.scheme.suspected(Failure::Refused(refusal, detail))
     }
 
     /// Whether the parties that lend a share are different ones of the scheme's. They are sorted.
     fn list_is_right(&self) -> bool {
         let different = self.parties.windows(2).all(|pair| pair[0] < pair[1]);
-        different && self.parties.iter().all(|party| (1..=self.scheme.n).contains(party))
+        different && self.parties.iter().all(|party| (1..=self.told.scheme.n).contains(party))
     }
 
     /// So many shares are enough to open the message and to rebuild the others.
     fn enough(&self) -> usize {
-        (self.scheme.n - self.scheme.r) as usize
+        (self.told.scheme.n - self.told.scheme.r) as usize
     }
 
     /// What is said of the party that is named. Its share need not be the wrong one: others may have been made to fit
     /// together.
     fn does_not_fit(&self, party: u8) -> String {
         let file = self.parties.iter().zip(&self.files).find(|(other, _)| **other == party);
-        let path = file.map_or(String::new(), |(_, file)| format!(", {:?},", file.path));
+        let path = file.map_or(String::new(), |(_, file)| format!(", {},", named(&file.path)));
         format!(
             "the share of party {party}{path} does not fit the others, which agree without it\n\
              sharing rebuild --party {party} rebuilds it from the others"
@@ -143,7 +158,7 @@ impl Shares {
     }
 
     fn why_nobody_is_named(&self) -> String {
-        let (given, needed, n) = (self.parties.len(), self.enough() + 2, self.scheme.n);
+        let (given, needed, n) = (self.parties.len(), self.enough() + 2, self.told.scheme.n);
         let only = if needed > n as usize { format!(", and there are only {n} parties") } else { String::new() };
         let why = if given < needed {
             format!("{given} shares are too few to tell which one does not fit: that takes {needed}{only}")
@@ -154,9 +169,9 @@ impl Shares {
         format!("{why}\neach file has to be a whole share, and no prefix")
     }
 
-    fn is_in(&self, out: &OsStr, party: u8) -> String {
-        let (bytes, many) = (counted(self.length(), "byte"), self.parties.len());
-        format!("The share of party {party}, {bytes}, is in {out:?}, rebuilt from the shares of {many} parties.\n")
+    fn is_in(&self, target: &Target, party: u8) -> String {
+        let (bytes, many, there) = (counted(self.length(), "byte"), self.parties.len(), target.there());
+        format!("The share of party {party}, {bytes}, is {there}, rebuilt from the shares of {many} parties.\n")
     }
 
     /// What is said of shares that agree.
@@ -165,7 +180,7 @@ impl Shares {
         if many > self.enough() {
             return format!("The {many} shares agree.\n{doubts}");
         }
-        let more = if many < self.scheme.n as usize { " It takes one more to notice a wrong one." } else { "" };
+        let more = if many < self.told.scheme.n as usize { " It takes one more to notice a wrong one." } else { "" };
         format!("Nothing could be checked: {many} shares always agree, right or wrong.{more}\n{doubts}")
     }
 
@@ -185,7 +200,7 @@ impl Shares {
 
     fn same_bytes(&self, places: &[usize]) -> String {
         let parties = listed(places.iter().map(|&place| self.parties[place].to_string()));
-        let paths = listed(places.iter().map(|&place| format!("{:?}", self.files[place].path)));
+        let paths = listed(places.iter().map(|&place| named(&self.files[place].path)));
         format!(
             "The files of the parties {parties}, {paths}, hold the same bytes: possible for shares of one message, but \
              unlikely.\n"
@@ -205,6 +220,6 @@ impl Shares {
     }
 
     fn scheme_used(&self) -> String {
-        format!("The scheme is {}.\n", self.scheme.used_by_readers())
+        format!("The scheme is {}.\n", self.told.scheme.used_by_readers())
     }
 }

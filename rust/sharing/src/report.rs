@@ -1,35 +1,17 @@
 //! What is said where all goes well, and how numbers are said.
 
-use crate::failure::Failure;
+use crate::failure::Done;
+use crate::standard;
 use std::io::Write;
-use std::sync::atomic::{AtomicBool, Ordering};
 
-static CLOSED: AtomicBool = AtomicBool::new(false);
-
-extern "C" {
-    fn fcntl(file: i32, command: i32, ...) -> i32;
+/// Writes to standard output.
+pub fn say(text: &str) -> Done {
+    standard::write(text.as_bytes())
 }
 
-extern "C" fn look() {
-    const FLAGS_OF_FILE: i32 = 1;
-    CLOSED.store(unsafe { fcntl(1, FLAGS_OF_FILE) } == -1, Ordering::Relaxed);
-}
-
-/// Where standard output is closed, Rust opens /dev/null in its place before `main`, and all that is said would seem to
-/// be printed. What stands in this section runs earlier.
-#[used]
-#[link_section = ".init_array"]
-static LOOK: extern "C" fn() = look;
-
-/// Writes to standard output, where `print!` would end the program if nobody reads.
-pub fn say(text: &str) -> Result<(), Failure> {
-    let said = if CLOSED.load(Ordering::Relaxed) {
-        Err("it is closed".to_string())
-    } else {
-        let mut out = std::io::stdout();
-        out.write_all(text.as_bytes()).and_then(|()| out.flush()).map_err(|error| error.to_string())
-    };
-    said.map_err(|reason| Failure::File(format!("cannot write to standard output: {reason}")))
+/// The same on standard error, for a report whose place is taken by what it is about: as far as that goes.
+pub fn say_aside(text: &str) {
+    let _ = write!(std::io::stderr(), "{text}");
 }
 
 /// What is worth knowing where standard output is for other programs to read: on standard error, as far as that goes.

@@ -15,6 +15,8 @@ pub struct Scheme {
     pub counts: Vec<u8>,
     /// Nobody named it.
     by_default: bool,
+    /// The file that named it, if one did.
+    said_by: Option<String>,
 }
 
 /// The lengths of an accepted scheme's block: m bytes in b rows.
@@ -43,7 +45,7 @@ impl Default for Scheme {
 
 impl Scheme {
     fn named(n: u8, r: u8, z: u8, counts: &[u8]) -> Scheme {
-        Scheme { n, r, z, counts: counts.to_vec(), by_default: false }
+        Scheme { n, r, z, counts: counts.to_vec(), by_default: false, said_by: None }
     }
 
     /// The default before, of which shares are stored.
@@ -83,6 +85,16 @@ impl Scheme {
         Scheme::from_words(arguments.option("--scheme"))
     }
 
+    /// The same, named by this file.
+    pub fn said_by(self, name: &str) -> Scheme {
+        Scheme { said_by: Some(name.to_string()), ..self }
+    }
+
+    /// For a report and a refusal: who named it, if a file did.
+    fn as_said(&self) -> String {
+        self.said_by.as_ref().map_or(String::new(), |name| format!(", as {name} says"))
+    }
+
     /// As it is written after `--scheme`.
     pub fn in_a_row(&self) -> String {
         in_a_row(&[&[self.n, self.r, self.z], &self.counts[..]].concat())
@@ -91,7 +103,7 @@ impl Scheme {
     /// For a report: which scheme was used.
     pub fn used(&self) -> String {
         let default = if self.by_default { "the default, " } else { "" };
-        format!("{default}{}", self.in_a_row())
+        format!("{default}{}{}", self.in_a_row(), self.as_said())
     }
 
     /// The same for who reads shares: those from before the default was this one do not tell it.
@@ -116,7 +128,7 @@ impl Scheme {
     pub fn check(&self) -> Result<Block, Failure> {
         match raw::check(self.n, self.r, self.z, &self.counts) {
             Ok((m, b)) => Ok(Block { bytes: m as usize, rows: b as usize, z: self.z as usize }),
-            Err(number) => Err(Failure::Refused(number, format!("the scheme is {self}"))),
+            Err(number) => Err(Failure::Refused(number, format!("the scheme is {self}{}", self.as_said()))),
         }
     }
 

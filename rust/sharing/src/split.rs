@@ -1,11 +1,16 @@
 //! The command `split`, with keys from a pool or from a file for this one message.
 
+use crate::about::{self, About};
 use crate::arguments::{paths, usage, Arguments};
 use crate::failure::{Done, Failure};
 use crate::files::{read, Input, Output};
+use crate::form::Form;
 use crate::pool::{check_no_pool, Pool};
 use crate::report::counted;
 use crate::scheme::{Block, Scheme};
+use crate::standard::{check_folder, check_once};
+use crate::{date, digest};
+use gilunavoi::limits::MAX_MESSAGE;
 use gilunavoi::raw::{self, KeyPool};
 use std::ffi::{OsStr, OsString};
 use std::path::{Path, PathBuf};
@@ -19,6 +24,8 @@ pub fn run(arguments: &Arguments) -> Done {
 
 fn with_key_file(arguments: &Arguments) -> Done {
     let [message, keys, folder] = paths(&arguments.words, ["MESSAGE", "KEYS", "FOLDER"])?;
+    check_folder(&folder, "FOLDER")?;
+    check_once([&message, &keys].map(PathBuf::as_path))?;
     check_no_pool(&keys)?;
     let splitting = Splitting::new(arguments, message)?;
     let shares = splitting.shares(&read(keys)?)?;
@@ -37,6 +44,7 @@ fn from_pool(arguments: &Arguments, pool: &OsStr) -> Done {
         return usage("--pool needs the folder of a pool".to_string());
     }
     let [message, folder] = paths(&arguments.words, ["MESSAGE", "FOLDER"])?;
+    check_folder(&folder, "FOLDER")?;
     let splitting = Splitting::new(arguments, message)?;
     let mut pool = Pool::to_use(pool.as_ref())?;
     pool.make_ready()?;
@@ -53,26 +61,35 @@ fn from_pool(arguments: &Arguments, pool: &OsStr) -> Done {
 
 /// A message that is to be split, and how.
 struct Splitting {
-    unpadded: bool,
-    scheme: Scheme,
+    /// The scheme, the form and what else its readers are told, and the file that tells it.
+    about: About,
+    about_file: String,
     block: Block,
     message: Input,
+    /// What is split: the message, and its check where one is wanted.
+    contents: Vec<u8>,
 }
 
 impl Splitting {
     fn new(arguments: &Arguments, message: PathBuf) -> Result<Splitting, Failure> {
-        let unpadded = arguments.flag("--unpadded");
+        let (checked, label, date) = (arguments.flag("--checked"), about::label_of(arguments)?, date::today()?);
         let scheme = Scheme::of(arguments)?;
         let block = scheme.check()?;
-        Ok(Splitting { unpadded, scheme, block, message: read(message)? })
+        let message = read(message)?;
+        let contents = if checked { digest::with_check(&message.bytes)? } else { message.bytes.clone() };
+        let form = if arguments.flag("--unpadded") { Form::Told(contents.len()) } else { Form::Padded };
+        let about = About { scheme, form, checked, date, label };
+        Ok(Splitting { about_file: about.to_string(), about, block, message, contents })
+    }
+
+    fn is_unpadded(&self) -> bool {
+        matches!(self.about.form, Form::Told(_))
     }
 
     fn blocks(&self) -> usize {
-        let length = self.message.bytes.len();
-        if self.unpadded {
-            self.block.blocks(length)
-        } else {
-            self.block.padded_blocks(length)
+        match self.about.form {
+            Form::Padded => self.block.padded_blocks(self.contents.len()),
+            Form::Told(length) => self.block.blocks(length),
         }
     }
 
@@ -82,18 +99,18 @@ impl Splitting {
     }
 
     fn room(&self) -> Vec<u8> {
-        vec![0; self.scheme.n as usize * self.share()]
+        vec![0; self.about.scheme.n as usize * self.share()]
     }
 
     /// The shares, party after party.
     fn shares(&self, keys: &Input) -> Result<Vec<u8>, Failure> {
         let mut shares = self.room();
-        let Scheme { n, r, z, ref counts, .. } = self.scheme;
-        let split = if self.unpadded { raw::split } else { raw::split_padded };
-        let answer = split(n, r, z, counts, &self.message.bytes, &keys.bytes, &mut shares);
+        let Scheme { n, r, z, ref counts, .. } = self.about.scheme;
+        let split = if self.is_unpadded() { raw::split } else { raw::split_padded };
+        let answer = split(n, r, z, counts, &self.contents, &keys.bytes, &mut shares);
         answer.map_err(|number| match number {
             8 => self.other_keys_needed(8, keys.to_string()),
-            _ => Failure::Refused(number, self.message.to_string()),
+            _ => Failure::Refused(number, self.given()),
         })?;
         Ok(shares)
     }
@@ -101,42 +118,64 @@ impl Splitting {
     /// The same with the next keys of a pool, and the record that follows.
     fn shares_from(&self, pool: &Pool) -> Result<(Vec<u8>, KeyPool), Failure> {
         let (mut shares, mut record) = (self.room(), pool.record());
-        let Scheme { n, r, z, ref counts, .. } = self.scheme;
-        let split = if self.unpadded { raw::split_from_pool } else { raw::split_padded_from_pool };
-        let answer = split(&mut record, n, r, z, counts, &self.message.bytes, &pool.keys.bytes, &mut shares);
+        let Scheme { n, r, z, ref counts, .. } = self.about.scheme;
+        let split = if self.is_unpadded() { raw::split_from_pool } else { raw::split_padded_from_pool };
+        let answer = split(&mut record, n, r, z, counts, &self.contents, &pool.keys.bytes, &mut shares);
         answer.map_err(|number| match number {
             16 if pool.fits() => self.other_keys_needed(16, format!("{:?} has {} left", pool.folder, pool.left())),
             16 => pool.misfit(),
-            _ => Failure::Refused(number, self.message.to_string()),
+            _ => Failure::Refused(number, self.given()),
         })?;
         Ok((shares, record))
     }
 
+    /// How long the message is, for a refusal.
+    fn given(&self) -> String {
+        let (message, check, most) = (&self.message, digest::LENGTH, MAX_MESSAGE - digest::LENGTH);
+        if self.about.checked {
+            return format!("{message}, and the check takes {check} more: with --checked a message has at most {most}");
+        }
+        message.to_string()
+    }
+
     /// The refusal of keys that are too few, or other than so many.
     fn other_keys_needed(&self, number: u64, given: String) -> Failure {
-        let (needed, used) = (counted(self.block.keys(self.blocks()), "byte"), self.scheme.used());
+        let (needed, used) = (counted(self.block.keys(self.blocks()), "byte"), self.about.scheme.used());
         Failure::Refused(number, format!("it needs {needed}, and {given}\nthe scheme is {used}"))
     }
 
     fn names(&self) -> Vec<OsString> {
-        (1..=self.scheme.n).map(|party| OsString::from(format!("share-{party}"))).collect()
+        let shares = (1..=self.about.scheme.n).map(|party| OsString::from(format!("share-{party}")));
+        shares.chain([OsString::from(about::NAME)]).collect()
     }
 
     /// What stands under each of the names.
-    fn files<'a>(&self, shares: &'a [u8]) -> Vec<&'a [u8]> {
+    fn files<'a>(&'a self, shares: &'a [u8]) -> Vec<&'a [u8]> {
         let part = |party: usize| &shares[party * self.share()..(party + 1) * self.share()];
-        (0..self.scheme.n as usize).map(part).collect()
+        (0..self.about.scheme.n as usize).map(part).chain([self.about_file.as_bytes()]).collect()
     }
 
     fn report(&self, folder: &Path) -> String {
-        let (n, bytes, used) = (self.scheme.n, counted(self.share(), "byte"), self.scheme.used());
+        let scheme = &self.about.scheme;
+        let (n, bytes, used) = (scheme.n, counted(self.share(), "byte"), scheme.used());
         let mut told =
             format!("{n} shares of {bytes} are in {folder:?}, share-1 to share-{n}.\nThe scheme is {used}.\n");
-        if self.unpadded {
-            let length = self.message.bytes.len();
-            told += &format!("Keep the message's length, {length}: it is needed to open the message, ");
-            told += "and the shares do not hold it.\n";
+        if self.about.checked {
+            told += &format!("A check of {} bytes is split with the message: ", digest::LENGTH);
+            told += "reconstruct with --about, or --checked, looks at it and takes it off.\n";
         }
-        told
+        told += &self.length_to_keep();
+        let about = folder.join(about::NAME);
+        told + &format!("What readers need to know, and nothing secret, is in {about:?}: give it to every party.\n")
+    }
+
+    /// Of the earlier form the length has to be told; it is that of what was split.
+    fn length_to_keep(&self) -> String {
+        let length = match (self.about.form, self.about.checked) {
+            (Form::Padded, _) => return String::new(),
+            (Form::Told(length), false) => format!("message's length, {length}"),
+            (Form::Told(length), true) => format!("length, {length}, in which the check is counted"),
+        };
+        format!("Keep the {length}: it is needed to open the message, and the shares do not hold it.\n")
     }
 }

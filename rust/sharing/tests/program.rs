@@ -104,13 +104,16 @@ fn the_default_scheme() {
     let (message, keys) = (folder.bytes("message"), folder.bytes("keys"));
     let said = folder.says("split message keys shares");
     assert_eq!(folder.shares("shares"), expected_shares(raw::split_padded_default, &message, &keys));
-    assert!(said.ends_with("\nThe scheme is the default, 5,2,2,5,4,3.\n"), "{said}");
+    let about = |name: &str| {
+        format!("What readers need to know, and nothing secret, is in \"{name}/about\": give it to every party.\n")
+    };
+    assert!(said.ends_with(&format!("\nThe scheme is the default, 5,2,2,5,4,3.\n{}", about("shares"))), "{said}");
     folder.says("split --unpadded message keys unpadded");
     assert_eq!(folder.shares("unpadded"), expected_shares(raw::split_default, &message, &keys));
     // The same scheme, named.
     let said = folder.says("split --scheme 5,2,2,5,4,3 message keys named");
     assert_eq!(folder.shares("named"), folder.shares("shares"));
-    assert!(said.ends_with("\nThe scheme is 5,2,2,5,4,3.\n"), "{said}");
+    assert!(said.ends_with(&format!("\nThe scheme is 5,2,2,5,4,3.\n{}", about("named"))), "{said}");
 }
 
 /// What is said to who takes shares of one form for the other. The message of 24 bytes fills its blocks, so that its
@@ -239,11 +242,7 @@ fn refusals_of_readers(folder: &Folder, unpadded: &str, length: &str) {
     for (parties, number, detail) in [
         (" 1=p1 2=p2", 6, "the parties are [1, 2], and"),
         ("", 6, "the parties are [], and"),
-        (
-            " 1=p1 2=p2 3=p3 4=p4 5=p5 6=p1 7=p2 8=p3 9=p4 10=p5 11=p1 12=p1 13=p1 14=p1 15=p1 16=p1",
-            6,
-            "14, 15, 16], and",
-        ),
+        (&folder.copies("p1", &(1..=16).collect::<Vec<_>>()), 6, "14, 15, 16], and"),
         (" 1=p1 4=p2 3=p3 4=p4", 7, "[1, 3, 4, 4]"),
         (" 0=p1 2=p2 3=p3 4=p4", 7, "[0, 2, 3, 4]"),
         (" 1=p1 2=p2 3=p3 6=p4", 7, "[1, 2, 3, 6]"),
@@ -264,11 +263,13 @@ fn refusals_of_readers_of_padded_messages() {
     folder.refuses("reconstruct out 1=p1 2=p2 3=p3 4=shares/share-4", 9, unequal);
     folder.write("empty", 0);
     folder.refuses("prefix --readers 4 empty out", 9, "2731 blocks, and \"empty\" has 0 bytes");
-    folder.refuses("reconstruct out 1=empty 2=empty 3=empty 4=empty", 9, "2731 blocks, and \"empty\" has 0 bytes");
+    let empty = folder.copies("empty", &[1, 2, 3, 4]);
+    folder.refuses(&format!("reconstruct out{empty}"), 9, "2731 blocks, and \"empty\" has 0 bytes");
     // One block more than the longest message has.
     folder.write("long", 2732 * 6);
     folder.refuses("prefix --readers 3 long out", 9, "2731 blocks, and \"long\" has 16392 bytes");
-    folder.refuses("reconstruct out 1=long 2=long 3=long", 9, "2731 blocks, and \"long\" has 16392 bytes");
+    let long = folder.copies("long", &[1, 2, 3]);
+    folder.refuses(&format!("reconstruct out{long}"), 9, "2731 blocks, and \"long\" has 16392 bytes");
 }
 
 #[test]
@@ -306,9 +307,10 @@ fn no_end() {
     // 3 blocks of 6 bytes: the prefixes for 5 readers are as long as a share of one.
     shares_and_prefixes(&folder, "", 36, "a", b"Call the client.");
     shares_and_prefixes(&folder, "", 36, "b", b"The car is here.");
+    fs::copy(folder.0.join("a-shares/share-4"), folder.0.join("other")).expect("a copy");
     for (options, files, last) in [
         ("", "a-shares/share", "b-shares/share-3"),
-        ("", "a-shares/share", "a-shares/share-4"),
+        ("", "a-shares/share", "other"),
         ("--scheme 4,1,1,4,3 ", "a-shares/share", "a-shares/share-3"),
         ("", "a-shares/short", "a-shares/short-3"),
     ] {
@@ -437,7 +439,11 @@ fn runs_at_once_into_one_folder() {
         let [winner] = winners[..] else { panic!("{winners:?} succeeded") };
         let expected = expected_shares(raw::split_padded_default, &folder.bytes(winner), &folder.bytes("keys"));
         assert_eq!(folder.shares(&shares), expected, "round {round}");
-        assert_eq!(fs::read_dir(folder.0.join(&shares)).expect("a folder").count(), 5, "nothing but the shares");
+        assert_eq!(
+            fs::read_dir(folder.0.join(&shares)).expect("a folder").count(),
+            6,
+            "nothing but the shares and about"
+        );
     }
 }
 
@@ -473,8 +479,8 @@ fn interrupts() {
     let folder = Folder::new("interrupts");
     folder.write("message", MAX_MESSAGE);
     folder.write("keys", MAX_MESSAGE + 1);
-    // The folder and the shares.
-    folder.interrupts("split --scheme 16,14,1,2 message keys shares", "shares", 17, "16 shares");
+    // The folder, the shares and about.
+    folder.interrupts("split --scheme 16,14,1,2 message keys shares", "shares", 18, "16 shares");
 }
 
 #[test]

@@ -64,8 +64,8 @@ fn the_program_without_the_former_default() {
         folder.refuses(&line.replacen(' ', " --scheme 5,2,2,5,4,3 ", 1), number, same);
     }
     // Where the scheme is not in doubt, the former one is not pointed out.
-    for (parties, number) in [("1 2", 6), ("1 2 6", 7)] {
-        let words: String = parties.split(' ').map(|party| format!(" {party}=letter-padded/share-1")).collect();
+    for (parties, number) in [(&[1, 2][..], 6), (&[1, 2, 6], 7)] {
+        let words = folder.copies("letter-padded/share-1", parties);
         let line = format!("reconstruct out{words}");
         folder.refuses(&line, number, "and the scheme is N 5, ");
         assert!(!folder.fails(&line, 1).contains("former default"), "{line}");
@@ -83,7 +83,7 @@ fn the_program_without_the_former_default() {
     let said = folder.says("prefix --readers 5 letter-padded/share-1 out");
     assert!(said.starts_with("The prefix, 6 bytes of 18, is in \"out\".\n") && said.contains(&report), "{said}");
     // Five of these, opened in the former default, look like two of the three blocks.
-    let five: String = (1..=5).map(|party| format!(" {party}=out")).collect();
+    let five = folder.copies("out", &[1, 2, 3, 4, 5]);
     folder.refuses(
         &format!("reconstruct {FORMER_DEFAULT}opened{five}"),
         11,

@@ -31,7 +31,8 @@ fn new_pool(folder: &Folder, length: usize) -> Vec<u8> {
 fn splits_alike(folder: &Folder, options: &str, keys: &[u8], left: usize) {
     let said = folder.says(&format!("split {options}--pool pool message shares"));
     folder.put("keys", keys);
-    let alike = folder.says(&format!("split {options}message keys alike")).replace("\"alike\"", "\"shares\"");
+    let alike = folder.says(&format!("split {options}message keys alike"));
+    let alike = alike.replace("\"alike\"", "\"shares\"").replace("\"alike/", "\"shares/");
     let used = keys.len();
     assert_eq!(said, format!("{alike}Key bytes of the pool \"pool\": {used} used for this message, {left} left.\n"));
     for share in fs::read_dir(folder.0.join("alike")).expect("a folder").flatten() {
@@ -189,11 +190,11 @@ fn help() {
         assert!(one.contains(&format!("sharing pool {command}\n")), "{one}");
         assert!(all.contains(&format!("  sharing pool {command}\n")), "{all}");
     }
-    assert!(all.contains("sharing split [--scheme S] [--unpadded] --pool POOL MESSAGE FOLDER\n"), "{all}");
     assert!(
-        split.contains("sharing split [--scheme N,R,Z,D1,D2..] [--unpadded] --pool POOL MESSAGE FOLDER\n"),
-        "{split}"
+        all.contains("sharing split [--scheme S] [--unpadded] [--checked] [--label TEXT] --pool POOL MESSAGE FOLDER\n"),
+        "{all}"
     );
+    assert!(split.contains("[--unpadded] [--checked] [--label TEXT] --pool POOL MESSAGE FOLDER\n"), "{split}");
     assert!(one.contains("recommended") && split.contains("recommended"));
     // What overwriting cannot promise.
     let words = one.replace('\n', " ");

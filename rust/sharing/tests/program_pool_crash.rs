@@ -86,18 +86,22 @@ impl Trial {
     }
 }
 
-/// What stands in a folder of shares: the party, and the bytes that are written of its share.
+/// What stands in a folder of shares: the party, and the bytes that are written of its share. About holds nothing of one.
 fn written(folder: &Folder, shares: &str) -> Vec<(usize, Vec<u8>)> {
     let Ok(entries) = fs::read_dir(folder.0.join(shares)) else {
         return Vec::new();
     };
     let file = |entry: fs::DirEntry| {
         let name = entry.file_name().into_string().expect("a name");
-        let party = name.trim_start_matches('.').strip_prefix("share-").and_then(|rest| rest.split('.').next());
+        let name = name.trim_start_matches('.');
+        if name.split('.').next() == Some("about") {
+            return None;
+        }
+        let party = name.strip_prefix("share-").and_then(|rest| rest.split('.').next());
         let party = party.and_then(|party| party.parse().ok()).unwrap_or_else(|| panic!("{name} is no share"));
-        (party, fs::read(entry.path()).expect("a file"))
+        Some((party, fs::read(entry.path()).expect("a file")))
     };
-    entries.flatten().map(file).collect()
+    entries.flatten().filter_map(file).collect()
 }
 
 /// In the order of these calls lies all that is promised: the record is safe on the disk before the keys are overwritten,

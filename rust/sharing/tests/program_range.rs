@@ -229,7 +229,8 @@ fn reports_on_messages_of_the_earlier_form() {
     assert!(said.contains("\nThe scheme is 5,2,2,5,4,3.\n"), "{said}");
     // The message without a byte.
     folder.write("empty", 0);
-    let (said, bytes) = opened(&folder, "reconstruct --length 0 --first 0 out 1=empty 2=empty 3=empty");
+    let empty = folder.copies("empty", &[1, 2, 3]);
+    let (said, bytes) = opened(&folder, &format!("reconstruct --length 0 --first 0 out{empty}"));
     let told = "The range 0..0 is empty, and so is \"out\"; 0 bytes were used of 0 in the prefixes of 3 parties, 0 of ";
     assert!(said.starts_with(told) && bytes.is_empty(), "{said}");
 }
@@ -340,7 +341,7 @@ fn refusals_of_padded_messages() {
     }
     // No block, and one more than the longest message has.
     for (name, length) in [("none", 0), ("most", 2732 * 6)] {
-        let three = format!(" 1={name} 2={name} 3={name}");
+        let three = folder.copies(name, &[1, 2, 3]);
         let has = format!("1 to 2731 blocks, and \"{name}\" has {length} bytes\n");
         for range in ["--first 0", "--first 1", "--first 16384", "--first 16392", "--first 16393"] {
             folder.refuses(&format!("reconstruct {range} out{three}"), 9, &has);
@@ -394,7 +395,7 @@ fn ranges_of_the_longest_message_that_fills_its_blocks() {
             let line = |words: &str| format!("reconstruct {options}{range} out{words}");
             // Together they have the right length, and then a block too much.
             folder.refuses(&line(&more.replace("sent/1", "less")), 9, &has);
-            let all_more = (1..=d).fold(words.clone(), |words, party| words.replace(&format!("sent/{party}"), "more"));
+            let all_more = folder.copies("more", &(1..=d).collect::<Vec<_>>());
             folder.refuses(&line(&all_more), 9, &has);
             folder.refuses(&line(&all_more.replace(" 2=", " 1=")), 7, "the parties are [1, 1");
         }

@@ -203,8 +203,9 @@ fn empty_files() {
     let folder = Folder::new("rebuild-empty");
     folder.write("empty", 0);
     let doubts = "The files are empty: they are shares of an empty message of the earlier form, or no shares at all.\n";
-    doubted(&folder, " 1=empty 2=empty 3=empty", doubts);
-    doubted(&folder, " 1=empty 2=empty 3=empty 4=empty 5=empty", doubts);
+    for parties in [&[1, 2, 3][..], &[1, 2, 3, 4, 5]] {
+        doubted(&folder, &folder.copies("empty", parties), doubts);
+    }
 }
 
 /// Copies of one file agree, whatever is in it.
@@ -214,8 +215,9 @@ fn the_same_bytes() {
     fs::copy(folder.0.join("shares/share-3"), folder.0.join("copy")).expect("a copy");
     let doubts = |files: &str| format!("The files of the parties {files}, hold the same bytes: {UNLIKELY}");
     doubted(&folder, " 1=copy 3=shares/share-3 4=shares/share-4", &doubts("1 and 3, \"copy\" and \"shares/share-3\""));
-    let five = doubts("1, 2, 3, 4 and 5, \"copy\", \"copy\", \"shares/share-3\", \"copy\" and \"copy\"");
-    doubted(&folder, " 5=copy 4=copy 3=shares/share-3 1=copy 2=copy", &five);
+    let five =
+        doubts("1, 2, 3, 4 and 5, \"copy-copy1\", \"copy-copy2\", \"shares/share-3\", \"copy-copy4\" and \"copy\"");
+    doubted(&folder, &format!("{} 3=shares/share-3", folder.copies("copy", &[5, 4, 1, 2])), &five);
     // Two pairs, in a scheme in which four parties are needed.
     split(&folder, "--scheme 5,1,2,5,4 ", 25, 30);
     fs::copy(folder.0.join("shares/share-1"), folder.0.join("one")).expect("a copy");
@@ -236,7 +238,10 @@ fn nobody_is_named() {
     disagree(&folder, "", &format!(" 1=bad-1{}", of(&[2, 3, 5])), &few);
     let many = format!("{MANY}{HINT}");
     disagree(&folder, "", &format!("{} 2=bad-2 4=bad-4", of(&[1, 3, 5])), &many);
-    disagree(&folder, "", &format!("{} 2=shares/share-4 4=shares/share-2", of(&[1, 3, 5])), &many);
+    for (copy, party) in [("second", 2), ("fourth", 4)] {
+        fs::copy(folder.0.join(format!("shares/share-{party}")), folder.0.join(copy)).expect("a copy");
+    }
+    disagree(&folder, "", &format!("{} 2=fourth 4=second", of(&[1, 3, 5])), &many);
     // Five parties of which one may be absent: there is nobody more to ask.
     split(&folder, "--scheme 5,1,2,5,4 ", 25, 30);
     folder.damaged("bad", "shares/share-5", &[2]);

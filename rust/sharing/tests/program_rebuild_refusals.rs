@@ -18,16 +18,16 @@ fn both_refuse(folder: &Folder, words: &str, number: u64, detail: &str) {
 #[test]
 fn refusals() {
     let folder = folder_with_shares("rebuild-refusals");
-    let share = "=shares/share-1";
+    folder.write("share", 30);
     for (parties, detail) in [
-        ("1 2 2", "[1, 2, 2]"),
-        ("0 2 3", "[0, 2, 3]"),
-        ("6 2 3", "[2, 3, 6]"),
-        ("255", "[255]"),
+        (&[1, 2, 2][..], "[1, 2, 2]"),
+        (&[0, 2, 3], "[0, 2, 3]"),
+        (&[6, 2, 3], "[2, 3, 6]"),
+        (&[255], "[255]"),
         // Too few as well, and that is looked at later.
-        ("1 1", "[1, 1]"),
+        (&[1, 1], "[1, 1]"),
     ] {
-        let words: String = parties.split(' ').map(|party| format!(" {party}{share}")).collect();
+        let words = folder.copies("share", parties);
         let detail = format!("\nthe parties are {detail}, and the scheme is N 5, R 2, Z 2, counts 5,4,3\n");
         both_refuse(&folder, &words, 7, &detail);
     }
@@ -69,15 +69,15 @@ fn lengths() {
     for (words, detail) in [
         (" 4=29", format!("{needed} \"29\" has 29 bytes\n")),
         (" 3=31 4=29", format!("{needed} \"31\" has 31 bytes\n")),
-        (" 3=more 4=more", format!("{needed} \"more\" has 16392 bytes\n")),
+        (&folder.copies("more", &[3, 4]), format!("{needed} \"more\" has 16392 bytes\n")),
         (" 4=endless", format!("{needed} \"endless\" has more than 1048576 bytes\n")),
         (" 4=24", "equally long, but \"shares/share-2\" has 30 bytes and \"24\" has 24 bytes\n".to_string()),
         (" 3=36 4=24", "equally long, but \"shares/share-2\" has 30 bytes and \"36\" has 36 bytes\n".to_string()),
     ] {
         both_refuse(&folder, &format!("{}{words}", of(&[1, 2])), 9, &detail);
     }
-    both_refuse(&folder, " 1=more 2=more 3=more", 9, &format!("{needed} \"more\" has 16392 bytes\n"));
-    folder.says("rebuild --party 4 out 1=most 2=most 3=most");
+    both_refuse(&folder, &folder.copies("more", &[1, 2, 3]), 9, &format!("{needed} \"more\" has 16392 bytes\n"));
+    folder.says(&format!("rebuild --party 4 out{}", folder.copies("most", &[1, 2, 3])));
     assert_eq!(folder.bytes("out").len(), 2731 * 6);
 }
 
@@ -101,7 +101,7 @@ fn nothing_is_overwritten_or_left_behind() {
         (format!("rebuild --party 2 out{shares} 2=absent"), "cannot read \"absent\": "),
         ("rebuild --party 2 out 1=out".to_string(), "cannot read \"out\": "),
         (format!("check{shares} 2=absent"), "cannot read \"absent\": "),
-        ("check 1=. 2=. 3=.".to_string(), "cannot read \".\": "),
+        ("check 1=.".to_string(), "cannot read \".\": "),
     ] {
         assert!(folder.fails(&line, 1).contains(words), "{line}");
     }
@@ -142,9 +142,9 @@ fn help_and_usage() {
     for (name, words) in [("rebuild", "--party P [--held FILE] OUT PARTY=FILE"), ("check", "PARTY=FILE")] {
         let one = folder.says(&format!("{name} --help"));
         assert_eq!(folder.says(&format!("{name} 1=a -h")), one);
-        assert!(one.starts_with(&format!("sharing {name} [--scheme N,R,Z,D1,D2..] {words} ")), "{one}");
+        assert!(one.starts_with(&format!("sharing {name} [--about FILE | --scheme N,R,Z,D1,D2..] {words} ")), "{one}");
         assert!(one.contains("--scheme 5,2,1,5,4,3") && one.contains("destroy the copies afterwards"), "{one}");
-        assert!(all.contains(&format!("  sharing {name} [--scheme S] {words} ..\n")), "{all}");
+        assert!(all.contains(&format!("  sharing {name} [--about FILE | --scheme S] {words} ..\n")), "{all}");
     }
     for (line, words) in [
         ("rebuild", "needed are OUT and PARTY=FILE, as often as there are shares"),

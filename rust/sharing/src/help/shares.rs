@@ -1,5 +1,6 @@
 //! What `--help` says of the commands that look after shares.
 
+use super::{ABOUT, MIX_UPS};
 use crate::scheme::Scheme;
 
 /// How far a check goes. Both commands make the same.
@@ -36,7 +37,7 @@ agree; but of a message of at most 10 bytes, or one that is mostly zeros, they m
 pub fn rebuild() -> String {
     format!(
         "\
-sharing rebuild [--scheme N,R,Z,D1,D2..] --party P [--held FILE] OUT PARTY=FILE PARTY=FILE ..
+sharing rebuild [--about FILE | --scheme N,R,Z,D1,D2..] --party P [--held FILE] OUT PARTY=FILE PARTY=FILE ..
 
 Makes the share of party P anew, exactly as it was split, and writes it into OUT: for a party whose share is lost, or
 in doubt. Each FILE is the whole share of the party of this number, no prefix, and there are N - R of them or more.
@@ -46,8 +47,11 @@ N - R shares in one place can open it: do this where the message may be opened, 
 --held FILE is what party P has now. How many of its bytes are wrong is said; the file stays as it is. OUT must not
 exist: where the new share is to stand in the place of the old one, move that away first.
 
-It does not matter in which form the message was split: neither its length nor its padding is looked at.
+It does not matter in which form the message was split: neither its length nor its padding is looked at. But with
+--about the shares must have a length that goes with what that file says.
 
+{ABOUT}
+{MIX_UPS}
 {}",
         what_is_checked()
     )
@@ -56,7 +60,7 @@ It does not matter in which form the message was split: neither its length nor i
 pub fn check() -> String {
     format!(
         "\
-sharing check [--scheme N,R,Z,D1,D2..] PARTY=FILE PARTY=FILE ..
+sharing check [--about FILE | --scheme N,R,Z,D1,D2..] PARTY=FILE PARTY=FILE ..
 
 Says whether shares agree, and how many more may be lost. Nothing is written. It is meant to be run from time to
 time, with the shares of all parties, so that one that went bad is replaced, by rebuild, while there are enough
@@ -64,6 +68,8 @@ others. Each FILE is the whole share of the party of this number, no prefix, and
 parties may stand in any order. The message is neither shown nor written. But who has N - R shares in one place can
 open it: do this where the message may be opened, and destroy the copies afterwards.
 
+{ABOUT}
+{MIX_UPS}
 {}",
         what_is_checked()
     )

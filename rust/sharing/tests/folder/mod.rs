@@ -14,6 +14,9 @@ extern "C" {
 #[allow(dead_code)]
 pub const FORMER_DEFAULT: &str = "--scheme 5,2,1,5,4,3 ";
 
+/// 17 November 2026, in seconds.
+pub const DAY: &str = "1794900000";
+
 /// A folder that is removed at the end.
 pub struct Folder(pub PathBuf);
 
@@ -24,9 +27,10 @@ impl Folder {
         Folder(path)
     }
 
-    /// The program with the words of a line. What it says is kept.
+    /// The program with the words of a line. What it says is kept. What it writes does not depend on the day.
     pub fn command(&self, line: &str) -> Command {
         let mut command = Command::new(env!("CARGO_BIN_EXE_sharing"));
+        command.env("SOURCE_DATE_EPOCH", DAY);
         command.args(line.split(' ')).current_dir(&self.0).stdout(Stdio::piped()).stderr(Stdio::piped());
         command
     }
@@ -68,6 +72,18 @@ impl Folder {
     pub fn write(&self, name: &str, length: usize) {
         let bytes: Vec<u8> = (0..length).map(|place| (place * 37 + length) as u8).collect();
         fs::write(self.0.join(name), bytes).expect("a written file");
+    }
+
+    /// A file for the first of these parties and copies of it for the others, as words: one file for two is refused.
+    #[allow(dead_code)]
+    pub fn copies(&self, name: &str, parties: &[usize]) -> String {
+        let mut words = format!(" {}={name}", parties[0]);
+        for party in &parties[1..] {
+            let copy = format!("{name}-copy{party}");
+            fs::copy(self.0.join(name), self.0.join(&copy)).expect("a copy");
+            words += &format!(" {party}={copy}");
+        }
+        words
     }
 
     pub fn bytes(&self, name: &str) -> Vec<u8> {
