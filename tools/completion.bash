@@ -17,7 +17,7 @@ _sharing() {
     local cur=${COMP_WORDS[COMP_CWORD]} prev=${COMP_WORDS[COMP_CWORD - 1]} command=${COMP_WORDS[1]} options part=
     COMPREPLY=()
     if [ "$COMP_CWORD" -eq 1 ]; then
-        _sharing_words 'scheme pool split prefix reconstruct rebuild check archive --help -h'
+        _sharing_words 'scheme pool split prefix reconstruct rebuild check archive --help --version -h'
         return
     fi
     case $command in

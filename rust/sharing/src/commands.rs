@@ -69,6 +69,9 @@ pub fn run(words: Vec<OsString>) -> Done {
     if asks_for_help(first) {
         return say(&help::all());
     }
+    if first == "--version" {
+        return say(concat!("sharing ", env!("CARGO_PKG_VERSION"), "\n"));
+    }
     let Some(command) = COMMANDS.iter().find(|command| first == command.name) else {
         return usage(format!("there is no command {first:?}"));
     };

@@ -53,7 +53,7 @@ sharing splits a message into shares and opens it again from the beginnings of a
   sharing archive entry FILE NUMBER OUT
       keeps many shares in one file, says what is in it, and copies one out of it
 
-  sharing COMMAND --help, or -h, says more.
+  sharing COMMAND --help, or -h, says more, and sharing --version which version this is.
 ";
 
 pub fn all() -> String {

@@ -3,19 +3,18 @@
 
 use crate::arguments::{usage, Arguments};
 use crate::failure::{Done, Failure};
-use crate::files::{Output, Place};
 use crate::picture::picture;
 use crate::ramp::ramp;
 use crate::range::{rows_in_order, Range};
 use crate::report::{counted, say};
 use crate::scheme::{Block, Scheme};
+use crate::target::Target;
 use std::ffi::OsString;
 use std::path::Path;
 
 pub fn run(arguments: &Arguments) -> Done {
     let (range, message) = (Range::of(arguments)?, Message::of(arguments)?);
-    let file = arguments.option("--picture").map(Path::new);
-    let place = file.map(Place::new).transpose()?;
+    let drawing = arguments.option("--picture").map(|file| Target::new(Path::new(file))).transpose()?;
     let scheme = Scheme::from_words(arguments.words.iter().map(OsString::as_os_str))?;
     let block = scheme.check()?;
     let mut text = format!("{scheme}\n{}{}", of_a_block(&block), ramp(&scheme));
@@ -23,12 +22,12 @@ pub fn run(arguments: &Arguments) -> Done {
     if let Some(message) = message {
         text += &message.costs(&scheme)?;
     }
-    match (file, place) {
-        (Some(file), Some(place)) => {
-            let output = Output::one_file(&place, picture(&scheme, &block).as_bytes())?;
-            output.keep(&format!("{text}The picture of the scheme is in {file:?}.\n"))
+    match drawing {
+        None => say(&text),
+        Some(target) => {
+            let told = format!("{text}The picture of the scheme is {}.\n", target.there());
+            target.put(picture(&scheme, &block).as_bytes(), &told)
         }
-        _ => say(&text),
     }
 }
 
