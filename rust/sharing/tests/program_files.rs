@@ -94,14 +94,16 @@ fn names_are_safe_before_the_report() {
         let safe: &[&str] =
             if line.contains("split") || line.contains("pool") { &["fsync new", "fsync ."] } else { &["fsync ."] };
         for (way, name) in WAYS.iter().zip(["link", "unlink", "rename"]) {
-            let (_, calls) = trial.whole(&line, way);
+            let (made, calls) = trial.whole(&line, way);
             let expected = [safe, &["write output"]].concat();
-            let (named, end) = calls.split_at(calls.len() - expected.len());
+            let (before, end) = calls.split_at(calls.len() - expected.len());
             assert_eq!(end, expected, "{line}");
-            assert!(named.last().is_some_and(|call| call.starts_with(name)), "{line}: {named:?}");
-            let synced = named.iter().position(|call| call.starts_with("link") || call.starts_with("rename"));
-            let written = named.iter().rposition(|call| call.starts_with("fsync"));
-            assert!(written < synced, "{line}: all is written before the first has its name: {named:?}");
+            assert!(before.last().is_some_and(|call| call.starts_with(name)), "{line}: {before:?}");
+            // All files are written and synced before the first one has its name.
+            let first = before.iter().position(|call| call.starts_with("link") || call.starts_with("rename"));
+            let (written, named) = before.split_at(first.expect("a name"));
+            assert_eq!(written.iter().filter(|call| call.starts_with("fsync")).count(), made.len(), "{line}");
+            assert!(!named.iter().any(|call| call.starts_with("write")), "{line}: {named:?}");
         }
     }
     // In another folder, and in one that was there.
@@ -256,15 +258,18 @@ fn interrupted_at_each_call() {
             // They differ in nothing but their numbers, so that all of them once are enough.
             let signals = if line == SPLIT && way.is_empty() { &SIGNALS[..] } else { &SIGNALS[2..] };
             for &(mode, signal) in signals {
-                let run = |at| trial.run(&line, &format!("{mode}{way}"), at).output;
+                let run = |at| trial.run(&line, &format!("{mode}{way}"), at);
                 for at in 1..calls.len() {
-                    let output = run(at);
+                    let Run { output, calls } = run(at);
                     let ended = (output.status.signal(), text(&output.stdout), text(&output.stderr));
                     let said = "sharing: interrupted, and nothing is kept of what was written\n".to_string();
                     assert_eq!(ended, (Some(signal), String::new(), said), "{line}: {}", calls[at - 1]);
                     trial.nothing_is_left(&before, &line);
+                    // No other file is begun, and none gets its name.
+                    let goes_on = |call: &String| call.starts_with("open") || call.starts_with("link");
+                    assert!(!calls[at..].iter().any(goes_on), "{line}: {calls:?}");
                 }
-                let output = run(calls.len());
+                let Run { output, .. } = run(calls.len());
                 assert_eq!((output.status.code(), text(&output.stderr)), (Some(0), String::new()));
                 assert_eq!(trial.made(), made);
             }
@@ -280,7 +285,7 @@ fn a_signal_at_the_start() {
     let before = trial.folder.names();
     for (mode, signal) in SIGNALS {
         let mut ends = 0;
-        for at in 1.. {
+        for at in 1..20 {
             let run = trial.run(SPLIT, &format!("{mode} early"), at);
             if run.output.status.success() {
                 break;
@@ -289,7 +294,7 @@ fn a_signal_at_the_start() {
             trial.nothing_is_left(&before, SPLIT);
             ends += 1;
         }
-        assert!(ends >= 2, "{mode}: {ends}");
+        assert!((2..9).contains(&ends), "{mode}: {ends}");
     }
 }
 

@@ -294,6 +294,7 @@ fn a_new_pool_killed_at_each_call() {
             if run.output.status.success() {
                 break;
             }
+            assert!(at <= run.calls.len(), "it is not stopped, and fails");
             assert!(!mode.starts_with("full") || !folder.0.join("pool").exists(), "{}", text(&run.output.stderr));
             if folder.0.join("pool/record").exists() {
                 let said = folder.says("pool status pool");

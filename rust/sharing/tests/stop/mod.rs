@@ -62,15 +62,20 @@ impl Stop {
         self.0 .0.join("trace")
     }
 
+    /// It is made here, since the program may run under a umask that lets nobody write.
+    fn clear_trace(&self) {
+        fs::write(self.trace(), "").expect("a written file");
+    }
+
     pub fn run(&self, folder: &Folder, line: &str, mode: &str, at: usize) -> Run {
-        let _ = fs::remove_file(self.trace());
+        self.clear_trace();
         self.ended(folder, self.start(folder, line, mode, at))
     }
 
     /// The same from a line of the shell, in which `"$@"` is the program with its words. The library is loaded into the
     /// program alone.
     pub fn run_in_shell(&self, folder: &Folder, shell: &str, line: &str, mode: &str, at: usize) -> Run {
-        let _ = fs::remove_file(self.trace());
+        self.clear_trace();
         let mut command = Command::new("sh");
         command.args(["-c", shell, "sh", "env"]);
         command.args(self.settings(mode, at).map(|(name, value)| format!("{name}={value}")));
@@ -84,7 +89,7 @@ impl Stop {
         let output = run.wait_with_output().expect("it ends");
         // Open files have their whole path.
         let here = fs::canonicalize(&folder.0).expect("a path").display().to_string();
-        let trace = fs::read_to_string(self.trace()).unwrap_or_default().replace(&part, ".part");
+        let trace = fs::read_to_string(self.trace()).expect("a trace").replace(&part, ".part");
         let trace = trace.replace(&format!("{here}/"), "").replace(&here, ".");
         Run { output, calls: trace.lines().map(without_number).collect() }
     }
