@@ -7,11 +7,12 @@ use crate::report::{counted, say};
 use crate::standard;
 use std::ffi::OsString;
 use std::fmt;
-use std::fs::{self, DirBuilder, File, OpenOptions};
-use std::io::{self, ErrorKind, Read, Write};
+use std::fs::{self, File};
+use std::io::{self, ErrorKind, Read};
 use std::os::unix::ffi::OsStrExt;
-use std::os::unix::fs::{DirBuilderExt, OpenOptionsExt};
 use std::path::{Path, PathBuf};
+
+pub mod disk;
 
 /// No message, key file, share or archive that a library accepts is nearly as long. Reading stops one byte
 /// after it, so that an endless file ends in a refusal too.
@@ -76,12 +77,13 @@ pub fn check_regular(path: &Path) -> Done {
     Ok(())
 }
 
-/// What was renamed or made in a folder is safe from a power cut only when this is done.
+fn not_synced(folder: &Path, error: &io::Error) -> Failure {
+    failed("sync the folder", disk::or_here(folder), error)
+}
+
+/// Makes what was renamed or made in a folder safe from a power cut, or fails.
 pub fn sync_folder(folder: &Path) -> Done {
-    // The folder of a name without one.
-    let folder = if folder.as_os_str().is_empty() { Path::new(".") } else { folder };
-    let synced = File::open(folder).and_then(|opened| opened.sync_all());
-    synced.map_err(|error| failed("sync the folder", folder, &error))
+    disk::sync(folder).map_err(|error| not_synced(folder, &error))
 }
 
 /// Where one file is to be written: a folder that exists, and a name in it.
@@ -102,6 +104,14 @@ impl Place {
     }
 }
 
+/// A file that is written, and has not its name yet.
+enum Part {
+    /// It has no name at all: nothing is left of it when the program ends, whatever ends it.
+    Unnamed(File),
+    /// It has another name.
+    Named(PathBuf),
+}
+
 /// Files in one folder. What was made is removed again unless `keep` succeeds. Only the owner may
 /// read them: they are shares, keys, or a message.
 pub struct Output {
@@ -120,7 +130,7 @@ impl Output {
     /// For files of these names in a folder, which is made where it does not exist.
     pub fn in_folder(folder: &Path, names: Vec<OsString>) -> Result<Output, Failure> {
         let mut output = Output::new(folder, names);
-        output.new_folder = match make(folder) {
+        output.new_folder = match disk::make(folder) {
             Ok(()) => true,
             Err(error) if error.kind() == ErrorKind::AlreadyExists && folder.is_dir() => false,
             Err(error) => return Err(failed("make the folder", folder, &error)),
@@ -131,7 +141,7 @@ impl Output {
     /// The same in a folder that must not exist.
     pub fn in_new_folder(folder: &Path, names: Vec<OsString>) -> Result<Output, Failure> {
         let mut output = Output::new(folder, names);
-        make(folder).map_err(|error| match error.kind() {
+        disk::make(folder).map_err(|error| match error.kind() {
             ErrorKind::AlreadyExists => taken(folder),
             _ => failed("make the folder", folder, &error),
         })?;
@@ -151,77 +161,96 @@ impl Output {
         Ok(self)
     }
 
-    /// Tries whether files can be made here, for who would lose something if they cannot: makes an empty one and removes it.
+    /// Tries whether files can be made here, for who would lose something if they cannot: makes an empty one, which does not
+    /// stay.
     pub fn try_to_write(&mut self) -> Done {
-        if let Some(name) = self.names.first().cloned() {
-            self.write_part(&name, &[])?;
-            let part = self.part(&name);
+        let Some(name) = self.names.first().cloned() else {
+            return Ok(());
+        };
+        if let Part::Named(part) = self.write_part(&name, &[])? {
             fs::remove_file(&part).map_err(|error| failed("write", &part, &error))?;
             self.made.retain(|made| *made != part);
         }
         Ok(())
     }
 
-    /// Writes a file for each of the names: all under other names first, and gives them their names only when all are
-    /// written.
+    /// Writes a file for each of the names: all without their names first, and gives them these only when all are written.
     pub fn write(&mut self, contents: &[&[u8]]) -> Result<(), Failure> {
         let names = self.names.clone();
+        let mut parts = Vec::new();
         for (name, bytes) in names.iter().zip(contents) {
             interrupt::check()?;
-            self.write_part(name, bytes)?;
+            parts.push(self.write_part(name, bytes)?);
         }
-        for name in &names {
+        for ((name, bytes), part) in names.iter().zip(contents).zip(parts) {
             interrupt::check()?;
-            self.give_name(name)?;
+            self.give_name(name, bytes, part)?;
         }
         Ok(())
     }
 
-    /// Makes the names of the files, and that of the folder, safe from a power cut.
-    pub fn sync_folders(&self) -> Done {
-        sync_folder(&self.folder)?;
-        self.folder.parent().map_or(Ok(()), sync_folder)
+    fn write_part(&mut self, name: &OsString, bytes: &[u8]) -> Result<Part, Failure> {
+        let Ok(file) = disk::unnamed(&self.folder) else {
+            // Not every file system has files without a name. If it was something else, that is found once more.
+            return self.write_named(name, bytes).map(Part::Named);
+        };
+        match disk::fill(&file, bytes) {
+            Ok(()) => Ok(Part::Unnamed(file)),
+            Err(error) => Err(failed("write", &self.folder.join(name), &error)),
+        }
     }
 
-    /// The name of a file that is not whole yet; it is no other process's.
-    fn part(&self, name: &OsString) -> PathBuf {
+    /// Writes a file under another name, which is no other process's.
+    fn write_named(&mut self, name: &OsString, bytes: &[u8]) -> Result<PathBuf, Failure> {
         let mut part = OsString::from(".");
         part.push(name);
         part.push(format!(".{}.part", std::process::id()));
-        self.folder.join(part)
-    }
-
-    fn write_part(&mut self, name: &OsString, bytes: &[u8]) -> Result<(), Failure> {
-        let (part, path) = (self.part(name), self.folder.join(name));
-        let opened = OpenOptions::new().write(true).create_new(true).mode(0o600).open(&part);
-        let mut file = opened.map_err(|error| match error.kind() {
+        let (part, path) = (self.folder.join(part), self.folder.join(name));
+        let file = disk::named(&part).map_err(|error| match error.kind() {
             ErrorKind::AlreadyExists => Failure::File(format!("cannot write {path:?}: {part:?} is in the way")),
             _ => failed("write", &path, &error),
         })?;
-        self.made.push(part);
-        let written = file.write_all(bytes).and_then(|()| file.sync_all());
-        written.map_err(|error| failed("write", &path, &error))
+        self.made.push(part.clone());
+        disk::fill(&file, bytes).map_err(|error| failed("write", &path, &error))?;
+        Ok(part)
     }
 
-    /// Gives the file its name, and fails where another run has taken the name since it was looked at, while a `rename` alone
-    /// would overwrite that run's file. A link does it in one step.
-    fn give_name(&mut self, name: &OsString) -> Result<(), Failure> {
-        let (part, path) = (self.part(name), self.folder.join(name));
-        match fs::hard_link(&part, &path) {
+    /// Gives the file its name, and fails where another run has taken the name since it was looked at.
+    fn give_name(&mut self, name: &OsString, bytes: &[u8], part: Part) -> Result<(), Failure> {
+        let path = self.folder.join(name);
+        let part = match part {
+            Part::Named(part) => part,
+            Part::Unnamed(file) => match disk::give_name(&file, &path) {
+                Ok(()) => {
+                    self.made.push(path);
+                    return Ok(());
+                }
+                Err(error) if error.kind() == ErrorKind::AlreadyExists => return Err(taken(&path)),
+                // As where /proc is missing. What has no name cannot get one then, and is written once more.
+                Err(_) => self.write_named(name, bytes)?,
+            },
+        };
+        self.rename(&part, path)
+    }
+
+    /// The same for a file that has another name. A `rename` alone would overwrite what the other run has written; a link
+    /// does it in one step.
+    fn rename(&mut self, part: &Path, path: PathBuf) -> Result<(), Failure> {
+        match fs::hard_link(part, &path) {
             Ok(()) => {
                 self.made.push(path.clone());
-                fs::remove_file(&part).map_err(|error| failed("write", &path, &error))?;
+                fs::remove_file(part).map_err(|error| failed("write", &path, &error))?;
             }
             Err(error) if error.kind() == ErrorKind::AlreadyExists => return Err(taken(&path)),
-            Err(_) => self.take_name(&part, &path)?,
+            Err(_) => self.take_name(part, &path)?,
         }
-        self.made.retain(|made| *made != part);
+        self.made.retain(|made| made != part);
         Ok(())
     }
 
     /// The same on a file system without links, as many sticks have: an empty file takes the name, and is replaced.
     fn take_name(&mut self, part: &Path, path: &Path) -> Result<(), Failure> {
-        OpenOptions::new().write(true).create_new(true).open(path).map_err(|error| match error.kind() {
+        disk::named(path).map_err(|error| match error.kind() {
             ErrorKind::AlreadyExists => taken(path),
             _ => failed("write", path, &error),
         })?;
@@ -229,8 +258,32 @@ impl Output {
         fs::rename(part, path).map_err(|error| failed("write", path, &error))
     }
 
-    /// Tells what was written, and keeps it. Where nobody can be told, it is not kept.
-    pub fn keep(mut self, told: &str) -> Done {
+    /// Tells what was written, and keeps it: from then on it is safe from a power cut, as far as the file system can promise
+    /// that. Where nobody can be told, it is not kept.
+    pub fn keep(self, told: &str) -> Done {
+        self.sync_folders(disk::cannot_be_synced)?;
+        self.tell(told)
+    }
+
+    /// The same for who relies on that promise: in a folder that cannot be synced nothing is kept.
+    pub fn keep_synced(self, told: &str) -> Done {
+        self.sync_folders(|_| false)?;
+        self.tell(told)
+    }
+
+    /// Makes the names of the files, and that of a folder that was made for them, safe from a power cut.
+    fn sync_folders(&self, excused: fn(&io::Error) -> bool) -> Done {
+        let parent = self.folder.parent().filter(|_| self.new_folder);
+        for folder in [Some(&*self.folder), parent].into_iter().flatten() {
+            match disk::sync(folder) {
+                Err(error) if !excused(&error) => return Err(not_synced(folder, &error)),
+                _ => {}
+            }
+        }
+        Ok(())
+    }
+
+    fn tell(mut self, told: &str) -> Done {
         // A signal that comes later is too late: the files are announced.
         interrupt::check()?;
         say(told)?;
@@ -250,10 +303,6 @@ impl Drop for Output {
             let _ = fs::remove_dir(&self.folder);
         }
     }
-}
-
-fn make(folder: &Path) -> io::Result<()> {
-    DirBuilder::new().mode(0o700).create(folder)
 }
 
 fn taken(path: &Path) -> Failure {

@@ -85,13 +85,15 @@ they come from a file of their own, use each key file for one message only, and 
 
 Files are written whole or not at all, for their owner's eyes only, and none is overwritten but those of a
 pool. That holds on Ctrl-C and on the signals TERM and HUP too. What cannot be caught, such as KILL or a power
-cut, can leave some of the files, and files named .NAME.NUMBER.part: they are as secret as what was to be
-written, and for you to remove.
+cut, can leave some of the files. On file systems without unnamed files, as many sticks and network drives have,
+it can also leave an empty file, and files named .NAME.NUMBER.part. All of them are as secret as what was to be
+written, and for you to remove. Once the report is printed, the files and their names are safe from a power cut,
+unless the file system cannot sync a folder, or you may write in it and not read it.
 
 In the place of a file to read, - is standard input, once in a command line. In the place of OUT, and of the FILE
-of archive write, it is standard output: nothing else is written there, and the report goes to standard error. As
-with a file nothing is written before all of it is known to be right; but who reads from a pipe that stays empty
-sees only by the exit status that it failed. A file of that name is given as ./-, and a folder too.
+of archive write and scheme --picture, it is standard output: nothing else is written there, and the report goes to
+standard error. As with a file nothing is written before all of it is known to be right; but who reads from a pipe
+that stays empty sees only by the exit status that it failed. A file of that name is given as ./-, and a folder too.
 
 The exit status is 0 when all went well, 1 when the input was refused or a file could not be read or
 written, and 2 when the command line cannot be understood. A signal ends the program as it ends others.

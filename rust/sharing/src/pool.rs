@@ -3,15 +3,15 @@
 //! that is stopped in between wastes the bytes that it took.
 
 use crate::failure::{Done, Failure};
-use crate::files::{check_regular, failed, read_opened, sync_folder, Input};
+use crate::files::{check_regular, disk, failed, read_opened, sync_folder, Input};
 use crate::interrupt;
 use crate::record::{read_record, text};
 use crate::report::counted;
 use crate::scheme::Scheme;
 use gilunavoi::raw::{self, KeyPool};
 use std::fs::{self, File, OpenOptions};
-use std::io::{self, ErrorKind, Write};
-use std::os::unix::fs::{FileExt, MetadataExt, OpenOptionsExt};
+use std::io::{self, ErrorKind};
+use std::os::unix::fs::{FileExt, MetadataExt};
 use std::path::{Path, PathBuf};
 
 /// The names of the two files.
@@ -181,7 +181,5 @@ fn write_synced(path: &Path, bytes: &[u8]) -> io::Result<()> {
         Err(error) if error.kind() != ErrorKind::NotFound => return Err(error),
         _ => {}
     }
-    let mut file = OpenOptions::new().write(true).create_new(true).mode(0o600).open(path)?;
-    file.write_all(bytes)?;
-    file.sync_all()
+    disk::fill(&disk::named(path)?, bytes)
 }

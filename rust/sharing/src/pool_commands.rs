@@ -53,10 +53,9 @@ fn new(words: &[OsString]) -> Done {
     // The record comes last: without it a pool cannot be used.
     let mut output = Output::in_new_folder(&folder, [KEYS, RECORD].map(OsString::from).to_vec())?;
     output.write(&[&keys.bytes, record.as_bytes()])?;
-    output.sync_folders()?;
     let bytes = counted(keys.bytes.len(), "key byte");
     let told = destroy(&keys);
-    output.keep(&format!(
+    output.keep_synced(&format!(
         "The pool {folder:?} is loaded with {bytes}.\n{told}, and a second pool made of it would use them twice.\n"
     ))
 }

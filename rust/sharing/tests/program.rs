@@ -466,11 +466,6 @@ fn a_failure_in_the_middle() {
         assert_eq!(folder.names(), left);
     }
     folder.shell_fails("exec \"$0\" --help >&-", "cannot write to standard output: it is closed");
-
-    // The third of the names that the program writes under is taken: two files are written before it.
-    let taken = "mkdir shares; : >shares/.share-3.$$.part; exec \"$0\" split message keys shares";
-    folder.shell_fails(taken, "cannot write \"shares/share-3\": \"shares/.share-3.");
-    assert_eq!(folder.names().len(), left.len() + 2, "the folder and the file that stood in the way");
 }
 
 /// Signals at all times of a run: it keeps all shares and says so, or none.
@@ -499,6 +494,7 @@ fn help() {
     let folder = Folder::new("help");
     let all = folder.says("--help");
     assert_eq!(folder.says("-h"), all);
+    assert_eq!(folder.says("--version"), format!("sharing {}\n", include_str!("../../../VERSION").trim_end()));
     for name in ["scheme", "split", "prefix", "reconstruct"] {
         let one = folder.says(&format!("{name} --help"));
         assert_eq!(folder.says(&format!("{name} -h")), one);
@@ -516,7 +512,7 @@ fn bad_usage() {
     for line in [
         "",
         "help",
-        "--version",
+        "version",
         "scheme 5 2",
         "scheme 300 2 1 5,4,3",
         "scheme 5 2 1 5,4,",

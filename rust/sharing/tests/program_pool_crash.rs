@@ -14,10 +14,14 @@ use stop::{Run, Stop};
 mod folder;
 #[allow(dead_code)]
 mod pool_folder;
+#[allow(dead_code)]
 mod stop;
 
 const SPLIT: &str = "split --pool pool message shares";
 const OVERWRITTEN: [&str; 2] = ["pwrite pool/keys", "fsync pool/keys"];
+
+/// The two ways of writing files: without a name at first, and under another one where the file system does not have that.
+const WAYS: [&str; 2] = ["", " no-tmpfile"];
 
 const KEYS: usize = 500;
 
@@ -63,6 +67,16 @@ impl Trial {
         position
     }
 
+    /// A run that was killed leaves nothing but so many shares under their names, from the first on.
+    fn has_whole_shares(&self, many: usize) {
+        let shares = expected_shares(MESSAGE, &self.keys[START..END]);
+        let names = if self.folder.0.join("shares").exists() { self.folder.names_in("shares") } else { Vec::new() };
+        assert_eq!(names, (1..=many).map(|party| format!("share-{party}")).collect::<Vec<_>>());
+        for (name, share) in names.iter().zip(shares) {
+            assert_eq!(self.folder.bytes(&format!("shares/{name}")), share);
+        }
+    }
+
     /// A run that failed leaves no share and no part of one, and says whether keys are used.
     fn keeps_nothing(&self, said: &str, position: usize) {
         assert!(!self.folder.0.join("shares").exists(), "{said}");
@@ -105,17 +119,13 @@ fn written(folder: &Folder, shares: &str) -> Vec<(usize, Vec<u8>)> {
 }
 
 /// In the order of these calls lies all that is promised: the record is safe on the disk before the keys are overwritten,
-/// and both before there is anything of a share.
+/// and both before there is anything of a share; and the shares and their names are safe before anything is said of them.
 #[test]
 fn the_order_of_the_calls() {
     let trial = Trial::new("pool-order");
-    let calls = trial.run("none", 0).calls;
     let opened = ["open pool/keys", "flock pool/keys", "fsync pool"];
+    let tried = [&["open shares", "fsync shares/unnamed"][..], &["open P", "fsync P", "unlink P"]];
     let moved = [
-        "mkdir shares",
-        "open shares/.share-1.part",
-        "fsync shares/.share-1.part",
-        "unlink shares/.share-1.part",
         "unlink pool/.record.part",
         "open pool/.record.part",
         "write pool/.record.part",
@@ -123,13 +133,20 @@ fn the_order_of_the_calls() {
         "rename pool/.record.part pool/record",
         "fsync pool",
     ];
-    let expected = [&opened[..], &OVERWRITTEN, &moved, &OVERWRITTEN].concat();
-    let (pool, rest) = calls.split_at(expected.len());
-    assert_eq!(pool, expected);
-    let (said, shares) = rest.split_last().expect("more calls");
-    assert_eq!(said, "write output");
-    assert!(shares.iter().all(|call| call.contains(" shares/") && !call.contains("pool/")), "{shares:?}");
-    assert_eq!(&shares[..3], ["open", "write", "fsync"].map(|call| format!("{call} shares/.share-1.part")));
+    let first = [
+        ["open shares", "write shares/unnamed", "fsync shares/unnamed"],
+        ["open shares/.share-1.part", "write shares/.share-1.part", "fsync shares/.share-1.part"],
+    ];
+    for (way, (tried, first)) in WAYS.iter().zip(tried.iter().zip(first)) {
+        let calls = trial.run(&format!("none{way}"), 0).calls;
+        let expected = [&opened[..], &OVERWRITTEN, &["mkdir shares"], tried, &moved, &OVERWRITTEN].concat();
+        let (pool, rest) = calls.split_at(expected.len());
+        assert_eq!(pool, expected.iter().map(|call| call.replace('P', "shares/.share-1.part")).collect::<Vec<_>>());
+        let (shares, safe) = rest.split_at(rest.len() - 3);
+        assert_eq!(safe, ["fsync shares", "fsync .", "write output"]);
+        assert!(shares.iter().all(|call| call.contains(" shares") && !call.contains("pool/")), "{shares:?}");
+        assert_eq!(shares[..3], first);
+    }
 
     // Where no run was killed before, nothing is left to be overwritten.
     trial.next_run_works(END);
@@ -141,29 +158,31 @@ fn the_order_of_the_calls() {
 #[test]
 fn killed_at_each_call() {
     let trial = Trial::new("pool-killed");
-    let (mut places, mut before, mut after, mut left_over) = (HashSet::new(), 0, 0, 0);
-    for mode in ["kill", "tear"] {
-        for at in 1.. {
-            let run = trial.run(mode, at);
-            if run.output.status.success() {
-                assert_eq!(run.calls.len(), at - 1);
-                trial.folder.holds_shares("shares", MESSAGE, &trial.keys[START..END]);
-                break;
+    let (mut places, mut before, mut after, mut left_over) = (HashSet::new(), 0, 0, [0, 0]);
+    for (way, left_over) in WAYS.iter().zip(&mut left_over) {
+        let calls = trial.run(&format!("none{way}"), 0).calls;
+        trial.folder.holds_shares("shares", MESSAGE, &trial.keys[START..END]);
+        for (at, call) in (1..).zip(&calls) {
+            for mode in if call.contains("write") { &["kill", "tear"][..] } else { &["kill"] } {
+                let run = trial.run(&format!("{mode}{way}"), at);
+                assert_eq!((run.output.status.signal(), &run.calls[..]), (Some(9), &calls[..at]));
+                let position = trial.position();
+                *left_over += !written(&trial.folder, "shares").is_empty() as usize;
+                before += (position == START) as usize;
+                after += (position == END) as usize;
+                if way.is_empty() {
+                    trial.has_whole_shares(calls[..at].iter().filter(|call| call.starts_with("link")).count());
+                }
+                trial.next_run_works(position);
+                places.insert(call.clone());
             }
-            assert_eq!((run.output.status.signal(), run.calls.len()), (Some(9), at));
-            let position = trial.position();
-            left_over += !written(&trial.folder, "shares").is_empty() as usize;
-            if position == START {
-                before += 1;
-            } else {
-                after += 1;
-            }
-            trial.next_run_works(position);
-            places.extend(run.calls.last().cloned());
         }
     }
-    println!("{} places; {before} before the record was moved, {after} after it; {left_over} left files", places.len());
-    assert!(places.len() >= 30 && before >= 15 && after >= 50 && left_over >= 45);
+    println!(
+        "{} places; {before} before the record was moved, {after} after it; {left_over:?} left files",
+        places.len()
+    );
+    assert!(places.len() >= 40 && before >= 25 && after >= 65 && left_over[0] >= 5 && left_over[1] >= 25);
 }
 
 /// The same where other runs wait for the pool: no two of them have the same keys.
@@ -177,7 +196,7 @@ fn some_of_several_at_once_are_killed() {
         let start = |(run, message): (usize, &String)| {
             folder.put(&format!("{run}"), message.as_bytes());
             folder.remove(&format!("shares-{run}"));
-            // Half of the runs are killed, at calls from the third to the third last.
+            // Half of the runs are killed, at calls from the third on to nearly the last.
             let (mode, at) = if run < 3 { ("kill", 3 + 6 * round + run) } else { ("none", 0) };
             trial.stop.start(folder, &format!("split --pool pool {run} shares-{run}"), mode, at)
         };
@@ -201,57 +220,67 @@ fn some_of_several_at_once_are_killed() {
 #[test]
 fn a_full_disk_at_each_call() {
     let trial = Trial::new("pool-full");
-    let all = trial.run("none", 0).calls.len();
-    let mut positions = Vec::new();
-    for mode in ["full", "fail"] {
-        for at in 1..=all {
-            let run = trial.run(mode, at);
-            let position = trial.position();
-            if run.output.status.success() {
-                // The call needs no room, or it is a link, in place of which a file is renamed.
-                let call = &run.calls[at - 1];
-                assert!(
-                    mode == "fail"
-                        && ["open pool/keys", "flock", "unlink", "link"].iter().any(|kind| call.starts_with(kind))
-                );
-                trial.folder.holds_shares("shares", MESSAGE, &trial.keys[START..END]);
-            } else {
-                let said = text(&run.output.stderr);
-                assert_eq!((run.output.status.code(), text(&run.output.stdout)), (Some(1), String::new()), "{said}");
-                assert!(said.starts_with("sharing: cannot ") && said.contains("No space left on device"), "{said}");
-                trial.keeps_nothing(&said, position);
-                positions.push(position);
+    let (mut all, mut positions) = (0, Vec::new());
+    for way in WAYS {
+        let calls = trial.run(&format!("none{way}"), 0).calls;
+        all += calls.len();
+        for (at, call) in (1..).zip(&calls) {
+            for mode in ["full", "fail"] {
+                let run = trial.run(&format!("{mode}{way}"), at);
+                let position = trial.position();
+                if run.output.status.success() {
+                    assert!(mode == "fail" && is_dispensable(call), "{call}");
+                    trial.folder.holds_shares("shares", MESSAGE, &trial.keys[START..END]);
+                } else {
+                    let said = text(&run.output.stderr);
+                    assert_eq!(
+                        (run.output.status.code(), text(&run.output.stdout)),
+                        (Some(1), String::new()),
+                        "{said}"
+                    );
+                    assert!(said.starts_with("sharing: cannot ") && said.contains("No space left on device"), "{said}");
+                    trial.keeps_nothing(&said, position);
+                    positions.push(position);
+                }
+                trial.next_run_works(position);
             }
-            trial.next_run_works(position);
         }
     }
     let before = positions.iter().filter(|position| **position == START).count();
     println!("{before} runs failed before the record was moved, {} after it", positions.len() - before);
-    assert!(before >= 13 && positions.len() >= all + 25, "{before} of {}", positions.len());
+    assert!(before >= 26 && positions.len() >= all + 45, "{before} of {}, {all} calls", positions.len());
+}
+
+/// Whether a run succeeds though this call does not: it needs no room, or there is another way. In place of a file without a
+/// name there is one with another name, in place of a link a renamed file.
+fn is_dispensable(call: &str) -> bool {
+    call == "open shares" || ["open pool/keys", "flock", "unlink", "link"].iter().any(|kind| call.starts_with(kind))
 }
 
 /// The signal TERM at each call: the run ends, and keeps nothing, or comes to its end.
 #[test]
 fn interrupted_at_each_call() {
     let trial = Trial::new("pool-interrupted");
-    let all = trial.run("none", 0).calls.len();
-    for at in 1..=all {
-        let run = trial.run("term", at);
-        let (said, position) = (text(&run.output.stderr), trial.position());
-        if at == all {
-            // The shares are announced.
-            assert!(run.output.status.success() && said.is_empty(), "{said}");
-            assert_eq!(position, END);
-        } else {
-            assert_eq!((run.output.status.signal(), text(&run.output.stdout)), (Some(15), String::new()));
-            let in_time = !run.calls[..at].iter().any(|call| call.starts_with("rename"));
-            assert_eq!(position, if in_time { START } else { END });
-            let noted = "sharing: interrupted, and nothing is kept of what was written\n";
-            // As long as nothing was made the signal ends the program at once.
-            assert!(said.starts_with(noted) || said.is_empty() && at <= 5, "{said}");
-            trial.keeps_nothing(&said, position);
+    for way in WAYS {
+        let all = trial.run(&format!("none{way}"), 0).calls.len();
+        for at in 1..=all {
+            let run = trial.run(&format!("term{way}"), at);
+            let (said, position) = (text(&run.output.stderr), trial.position());
+            if at == all {
+                // The shares are announced.
+                assert!(run.output.status.success() && said.is_empty(), "{said}");
+                assert_eq!(position, END);
+            } else {
+                assert_eq!((run.output.status.signal(), text(&run.output.stdout)), (Some(15), String::new()));
+                let in_time = !run.calls[..at].iter().any(|call| call.starts_with("rename"));
+                assert_eq!(position, if in_time { START } else { END });
+                let noted = "sharing: interrupted, and nothing is kept of what was written\n";
+                // As long as nothing was made the signal ends the program at once.
+                assert!(said.starts_with(noted) || said.is_empty() && at <= 5, "{said}");
+                trial.keeps_nothing(&said, position);
+            }
+            trial.next_run_works(position);
         }
-        trial.next_run_works(position);
     }
 }
 
@@ -262,14 +291,15 @@ fn a_new_pool_killed_at_each_call() {
     let folder = &trial.folder;
     folder.put("keyfile", &trial.keys);
     let (mut none, mut whole) = (0, 0);
-    for mode in ["kill", "tear", "full"] {
+    for mode in WAYS.iter().flat_map(|way| ["kill", "tear", "full"].map(|mode| format!("{mode}{way}"))) {
         for at in 1.. {
             folder.remove("pool");
-            let run = trial.stop.run(folder, "pool new pool keyfile", mode, at);
+            let run = trial.stop.run(folder, "pool new pool keyfile", &mode, at);
             if run.output.status.success() {
                 break;
             }
-            assert!(mode != "full" || !folder.0.join("pool").exists(), "{}", text(&run.output.stderr));
+            assert!(at <= run.calls.len(), "it is not stopped, and fails");
+            assert!(!mode.starts_with("full") || !folder.0.join("pool").exists(), "{}", text(&run.output.stderr));
             if folder.0.join("pool/record").exists() {
                 let said = folder.says("pool status pool");
                 assert_eq!(said, format!("Key bytes of the pool \"pool\": {KEYS} loaded, 0 used, {KEYS} left.\n"));
@@ -282,18 +312,45 @@ fn a_new_pool_killed_at_each_call() {
             }
         }
     }
-    assert!(none >= 25 && whole >= 6, "{none} {whole}");
+    assert!(none >= 50 && whole >= 13, "{none} {whole}");
 }
 
 #[test]
 fn the_order_of_the_calls_for_a_new_pool() {
     let trial = Trial::new("pool-new-order");
     trial.folder.put("keyfile", &trial.keys);
-    let calls = trial.stop.run(&trial.folder, "pool new pool keyfile", "none", 0).calls;
+    let run = |mode: &str| {
+        trial.folder.remove("pool");
+        trial.stop.run(&trial.folder, "pool new pool keyfile", mode, 0).calls
+    };
+    let (made, synced) = (["mkdir pool".to_string()], ["fsync pool", "fsync .", "write output"].map(String::from));
+    let unnamed = ["open pool", "write pool/unnamed", "fsync pool/unnamed"].map(String::from);
+    let names = ["keys", "record"].map(|file| format!("link pool/unnamed pool/{file}"));
+    assert_eq!(run("none"), [&made[..], &unnamed, &unnamed, &names, &synced].concat());
+
     let part = |file: &str| ["open", "write", "fsync"].map(|call| format!("{call} pool/.{file}.part"));
     let name = |file: &str| [format!("link pool/.{file}.part pool/{file}"), format!("unlink pool/.{file}.part")];
-    let parent = fs::canonicalize(&trial.folder.0).expect("a path").display().to_string();
-    let synced = ["fsync pool".to_string(), format!("fsync {parent}"), "write output".to_string()];
-    let made = ["mkdir pool".to_string()];
-    assert_eq!(calls, [&made[..], &part("keys"), &part("record"), &name("keys"), &name("record"), &synced].concat());
+    let expected = [&made[..], &part("keys"), &part("record"), &name("keys"), &name("record"), &synced].concat();
+    assert_eq!(run("none no-tmpfile"), expected);
+}
+
+/// A pool stands in a folder that can be synced or not at all: that its record is safe before anything of a share is on the
+/// disk would else be a hope.
+#[test]
+fn a_folder_that_cannot_be_synced() {
+    let trial = Trial::new("pool-no-sync");
+    trial.folder.put("keyfile", &trial.keys);
+    for (mode, why) in [("no-sync", "Invalid argument"), ("no-reading", "Permission denied")] {
+        let run = trial.stop.run(&trial.folder, "pool new pool keyfile", mode, 0);
+        let said = text(&run.output.stderr);
+        assert!(said.starts_with(&format!("sharing: cannot sync the folder \"pool\": {why}")), "{said}");
+        assert!(!trial.folder.0.join("pool").exists());
+
+        let run = trial.run(mode, 0);
+        let said = text(&run.output.stderr);
+        assert!(said.starts_with(&format!("sharing: cannot sync the folder \"pool\": {why}")), "{said}");
+        assert_eq!(trial.position(), START);
+        assert_eq!(trial.folder.bytes("pool/keys"), trial.keys);
+        trial.folder.remove("pool");
+    }
 }
