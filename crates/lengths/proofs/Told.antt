@@ -9,7 +9,7 @@ use Rattle.scheme.specs.declared.Scheme.{Scheme}
 use Rattle.scheme.specs.declared.SchemeAnswer.{SchemeAnswer}
 use Rattle.scheme.specs.declared.SchemeAnswer.the-variants.{Accepted, Refused as SchemeRefused}
 use Rattle.scheme.specs.Facts.{SchemeIs}
-use Rattle.scheme.specs.Limits.{maxParties, maxBlock, maxMessage, maxBlocks}
+use Rattle.scheme.specs.Limits.{maxParties, maxBlock, maxMessage}
 use Rattle.scheme.specs.Outcome.{accepted, refused, schemeOutcome, answer}
 use Rattle.scheme.specs.Check.{checked}
 use Rattle.scheme.proofs.Laws.{accepted as accepted-facts, accepted-scheme, answer-none, answered-none, answered-some, first-none, first-if, kept}

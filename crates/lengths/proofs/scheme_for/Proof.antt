@@ -1,6 +1,6 @@
 -- `lengths::scheme_for` meets its contract: each way out is a way through the refusals.
 -- Assumes nothing.
-use mathlib.Core.Path.{_≡_, refl, sym, ap, _∙_}
+use mathlib.Core.Path.{sym, ap, _∙_}
 use borrow.Author.Needs.{needs}
 use Rattle.scheme.specs.Outcome.{schemeOutcome}
 use Rattle.scheme.specs.Check.{checked}
