@@ -2,19 +2,18 @@
 -- Assumes nothing.
 use mathlib.Core.Path.{_≡_, sym, ap, _∙_}
 use mathlib.Core.List.{List, [], _∷_}
-use Prim.Native.Nat.{ℕ, _*_, _≤_}
-use native.Mathlib.Omega.{arith}
+use Prim.Native.Nat.{ℕ, _*_, _≤_, _<_}
 use borrow.Author.Tests.{ltb-false}
 use Rattle.scheme.specs.declared.Scheme.{Scheme}
 use Rattle.scheme.specs.declared.SchemeAnswer.{SchemeAnswer}
 use Rattle.scheme.specs.declared.SchemeAnswer.the-variants.{Accepted, Refused as SchemeRefused}
 use Rattle.scheme.specs.Facts.{SchemeIs}
-use Rattle.scheme.specs.Limits.{maxParties, maxBlock, maxMessage}
+use Rattle.scheme.specs.Limits.{maxBlock, maxMessage}
 use Rattle.scheme.specs.Outcome.{accepted, refused, schemeOutcome, answer}
 use Rattle.scheme.specs.Check.{checked}
-use Rattle.scheme.proofs.Laws.{accepted as accepted-facts, accepted-scheme, answer-none, answered-none, answered-some, first-none, first-if, kept}
+use Rattle.scheme.proofs.Laws.{accepted-scheme, answer-none, answered-none, answered-some, first-none, first-if, kept}
 use Rattle.staircase.specs.Parameters.{Parameters, AcceptedScheme}
-use Rattle.staircase.proofs.Sizes.{rows-most}
+use Rattle.staircase.proofs.Sizes.{block-some, block-most, rows-most}
 use Rattle.lengths.specs.declared.MessageLengths.{MessageLengths}
 use Rattle.lengths.specs.Lengths.{lengthsValues, lengthsRefusal, lengthsFor, acceptedFor}
 
@@ -45,12 +44,12 @@ module _ (p : Parameters) (message : ℕ) where
       unfolding acceptedFor checked
       scheme-is = accepted-scheme (e ∙ answer-none _ _ none ∙ sym (answer-none _ _ (none-refused none .0))) told
 
-      -- n, z and b are small, so that their products with N fit
-      pub small : (s .n ≤ maxParties) × (s .z ≤ maxParties) × (s .rows ≤ maxBlock)
-      small =
-          let is = scheme-is in
-          let sizes = accepted-facts (p .n) (p .r) (p .z) (p .counts) (is .passed) .sizes in
-          (rw (is .n-is) (sizes .parties-high), rw (is .z-is) (omega (arith, sizes)), rw (is .rows-is) (rows-most p (is .passed)))
+      -- m and b are small, so that their products with N fit
+      pub block-small : (0 < s .block) × (s .block ≤ maxBlock)
+      block-small = let is = scheme-is in rw (is .block-is) (block-some p (is .passed), block-most p (is .passed))
+
+      pub rows-small : s .rows ≤ maxBlock
+      rows-small = let is = scheme-is in rw (is .rows-is) (rows-most p (is .passed))
 
       pub lengths-told : (N opened : ℕ) (l : MessageLengths)
           → lengthsValues l ≡ N ∷ N * s .z * s .rows ∷ N * s .rows ∷ s .n * N * s .rows ∷ opened ∷ []

@@ -1,9 +1,10 @@
 // The lengths that a message of so many bytes asks for, in both forms: nobody who splits or opens one has to work them out.
 ghost use mathlib.Core.Path.{_≡_};
 ghost use mathlib.Core.List.{[], _∷_};
-ghost use Prim.Native.Nat.{_*_, _≤_};
-ghost use Rattle.scheme.specs.Limits.{maxParties, maxBlock, maxBlocks};
+ghost use Prim.Native.Nat.{_*_, _≤_, _<_};
+ghost use Rattle.scheme.specs.Limits.{maxBlock, maxMessage, maxBlocks};
 ghost use Rattle.scheme.specs.Outcome.{schemeOutcome};
+ghost use Rattle.scheme.specs.Padding.{paddedCount};
 ghost use Rattle.staircase.specs.Parameters.{parameters, defaultParameters};
 ghost use Rattle.lengths.specs.Lengths.{lengthsValues, lengthsOutcome, lengthsAnswer, lengthsPaddedAnswer, acceptedFor};
 use lists::wide;
@@ -52,7 +53,7 @@ pub fn lengths_padded(n: u8, r: u8, z: u8, counts: &[u8], message_length: usize)
     let SchemeAnswer::Accepted(s) = answer else {
         return LengthsAnswer::Refused(scheme::refusal(answer));
     };
-    let blocks = message_length / s.block + 1;
+    let blocks = padded_count(s.block, message_length);
     LengthsAnswer::Lengths(of_blocks(s, blocks, blocks * s.block))
 }
 
@@ -86,9 +87,17 @@ fn scheme_for(n: u8, r: u8, z: u8, counts: &[u8], message_length: usize) -> Sche
     answer
 }
 
+// N of a padded message of so many bytes: there is room for one byte more.
+fn padded_count(block: usize, bytes: usize) -> usize
+    requires { ⌜ (0 < block) × (bytes ≤ maxMessage) ⌝ }
+    ensures { λ blocks. ⌜ blocks ≡ paddedCount block bytes ⌝ }
+{
+    bytes / block + 1
+}
+
 // The lengths that so many blocks make, of which the opener writes so many bytes.
 fn of_blocks(s: Scheme, blocks: usize, opened: usize) -> MessageLengths
-    requires { ⌜ (s .n ≤ maxParties) × (s .z ≤ maxParties) × (s .rows ≤ maxBlock) × (blocks ≤ maxBlocks) ⌝ }
+    requires { ⌜ (s .rows ≤ maxBlock) × (blocks ≤ maxBlocks) ⌝ }
     ensures { λ l. ⌜ lengthsValues l ≡ blocks ∷ blocks * s .z * s .rows ∷ blocks * s .rows ∷ s .n * blocks * s .rows ∷ opened ∷ [] ⌝ }
 {
     MessageLengths {

@@ -2,7 +2,7 @@
 -- Assumes nothing.
 use borrow.Author.Needs.{needs}
 use Rattle.staircase.proofs.Sizes.{blocks-are, blocks-few}
-use Rattle.lengths.proofs.Told.{short, scheme-is, small, lengths-told, refusal-told}
+use Rattle.lengths.proofs.Told.{short, scheme-is, rows-small, lengths-told, refusal-told}
 use Rattle.lengths.proofs.lengths.Statement.{statement}
 use Rattle.lengths.proofs.lengths.Tie as tie
 
@@ -20,8 +20,7 @@ lengths-spec =
     let k = c .before .before in
     let e = k .before .before .scheme-for .ensures in
     let told = k .answer .given .1 in
-    let most = small _ _ e told in
-    (most .0, most .1, most .2, blocks-few _ _ (scheme-is _ _ e told) _ _ (c .block-count .ensures) (short _ _ e told)))
+    (rows-small _ _ e told, blocks-few _ _ (scheme-is _ _ e told) _ _ (c .block-count .ensures) (short _ _ e told)))
     (λ c.
     let k = c .before .before .before in
     let e = k .before .before .scheme-for .ensures in
