@@ -238,6 +238,45 @@ SHARING_CALL_WITHOUT_POINTERS
 sharing_tried_scheme sharing_check_tried_default(void);
 
 /*
+ * The lengths that a message asks for: the number N of its blocks, and in bytes the keys, one share, the
+ * output of a split (all shares), and the output of the call that opens the message.
+ */
+typedef struct {
+    uint64_t refusal;
+    uint64_t blocks;
+    uint64_t keys;
+    uint64_t share;
+    uint64_t output;
+    uint64_t opened;
+} sharing_lengths_answer;
+
+/*
+ * The lengths of a padded message of message_length bytes: N, N x z x b, N x b, n x N x b, and N x m, since
+ * whole blocks are opened. sharing_split_padded takes exactly `keys` and `output`, and answers `share`;
+ * sharing_reconstruct_padded, from prefixes of N blocks, takes exactly `opened`. Refusals 1 to 5, which are
+ * those of the split.
+ */
+SHARING_CALL
+sharing_lengths_answer sharing_lengths_padded(
+    uint8_t n, uint8_t r, uint8_t z, const uint8_t *counts, size_t counts_length, size_t message_length);
+
+/* The same with the default scheme. Refusal 5. */
+SHARING_CALL_WITHOUT_POINTERS
+sharing_lengths_answer sharing_lengths_padded_default(size_t message_length);
+
+/*
+ * The same of a message in the earlier form, for sharing_split and sharing_reconstruct: with that form's N,
+ * and `opened` is message_length, since the message alone is opened. Refusals 1 to 5.
+ */
+SHARING_CALL
+sharing_lengths_answer sharing_lengths(
+    uint8_t n, uint8_t r, uint8_t z, const uint8_t *counts, size_t counts_length, size_t message_length);
+
+/* The same with the default scheme. Refusal 5. */
+SHARING_CALL_WITHOUT_POINTERS
+sharing_lengths_answer sharing_lengths_default(size_t message_length);
+
+/*
  * Splits a message, which is padded: writes the n shares of N x b bytes into `out`, one after another,
  * party 1 first. `value` is the length of one share. Refusals 1 to 5, 8 and 10 (`out` has n x N x b
  * bytes).

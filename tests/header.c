@@ -34,6 +34,7 @@ static void sizes(void) {
     EXPECT(sizeof(sharing_tried_scheme) == 32);
     EXPECT(sizeof ((sharing_basis_answer *)0)->weights == 256 && sizeof(sharing_key_pool) == 16);
     EXPECT(sizeof(sharing_gf256_inverse_answer) == 16 && sizeof(sharing_rebuild_answer) == 24);
+    EXPECT(sizeof(sharing_lengths_answer) == 48);
 }
 
 static void arithmetic(void) {
@@ -64,6 +65,39 @@ static void schemes(void) {
     EXPECT(t.refusal == 3 && t.block == 0 && t.rows == 0 && t.tried == 0);
     t = sharing_check_tried_default();
     EXPECT(t.refusal == 0 && t.block == 6 && t.rows == 6 && t.tried == 2);
+}
+
+static void lengths_are(
+    sharing_lengths_answer a, uint64_t blocks, uint64_t keys, uint64_t share, uint64_t output, uint64_t opened) {
+    EXPECT(a.refusal == 0 && a.blocks == blocks && a.keys == keys);
+    EXPECT(a.share == share && a.output == output && a.opened == opened);
+}
+
+static void lengths_refused(sharing_lengths_answer a, uint64_t refusal) {
+    EXPECT(a.refusal == refusal && a.blocks == 0 && a.keys == 0);
+    EXPECT(a.share == 0 && a.output == 0 && a.opened == 0);
+}
+
+/* Of 13 bytes, in blocks of 6 with 3 rows; of 12, which fill two blocks; and of 33 in the default scheme. */
+static void message_lengths(void) {
+    const uint8_t too_long[] = {10, 9, 8, 6};
+    lengths_are(sharing_lengths(5, 1, 2, counts, 2, 13), 3, 18, 9, 45, 13);
+    lengths_are(sharing_lengths(5, 1, 2, counts, 2, 12), 2, 12, 6, 30, 12);
+    lengths_are(sharing_lengths(5, 1, 2, counts, 2, 0), 0, 0, 0, 0, 0);
+    lengths_are(sharing_lengths_padded(5, 1, 2, counts, 2, 13), 3, 18, 9, 45, 18);
+    lengths_are(sharing_lengths_padded(5, 1, 2, counts, 2, 12), 3, 18, 9, 45, 18);
+    lengths_are(sharing_lengths_padded(5, 1, 2, counts, 2, 0), 1, 6, 3, 15, 6);
+    lengths_are(sharing_lengths_default(33), 6, 72, 36, 180, 33);
+    lengths_are(sharing_lengths_padded_default(33), 6, 72, 36, 180, 36);
+    lengths_are(sharing_lengths_default(16384), 2731, 32772, 16386, 81930, 16384);
+    lengths_are(sharing_lengths_padded_default(16384), 2731, 32772, 16386, 81930, 16386);
+    lengths_refused(sharing_lengths(5, 1, 0, counts, 2, 13), 2);
+    lengths_refused(sharing_lengths(10, 4, 1, too_long, 4, 16385), 4);
+    lengths_refused(sharing_lengths(5, 1, 2, counts, 2, SIZE_MAX), 5);
+    lengths_refused(sharing_lengths_padded(10, 4, 1, too_long, 4, 16385), 4);
+    lengths_refused(sharing_lengths_padded(5, 1, 2, counts, 2, SIZE_MAX), 5);
+    lengths_refused(sharing_lengths_default(16385), 5);
+    lengths_refused(sharing_lengths_padded_default(16385), 5);
 }
 
 static void splits(void) {
@@ -482,6 +516,7 @@ int main(void) {
     sizes();
     arithmetic();
     schemes();
+    message_lengths();
     splits();
     prefixes();
     bases();

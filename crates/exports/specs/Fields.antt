@@ -26,6 +26,7 @@ use Rattle.reader.specs.ReconstructPadded.{reconstructPaddedAnswer, reconstruct
 use Rattle.exports.specs.declared.Gf256InverseAnswer.{Gf256InverseAnswer}
 use Rattle.exports.specs.declared.SharingScheme.{SharingScheme}
 use Rattle.exports.specs.declared.SharingAnswer.{SharingAnswer}
+use Rattle.exports.specs.declared.message_lengths.SharingLengths.{SharingLengths}
 use Rattle.exports.specs.declared.padded.SharingPaddedAnswer.{SharingPaddedAnswer}
 use Rattle.exports.specs.declared.rebuild.SharingRebuildAnswer.{SharingRebuildAnswer}
 use Rattle.exports.specs.declared.SharingBasis.{SharingBasis}
@@ -54,6 +55,14 @@ triedSchemeFields s = s .refusal ∷ s .block ∷ s .rows ∷ s .tried ∷ []
 -- that number is the first of the values, before n, r, z, m and b, and stands beside a refusal too
 abbrev pub checkedTriedFields : Outcome → List ℕ
 checkedTriedFields o = o .number ∷ getD (o .values) 4 0 ∷ getD (o .values) 5 0 ∷ getD (o .values) 0 0 ∷ []
+
+-- of the lengths of a message: its blocks, and the bytes of its keys, of a share, of all shares and of what is opened
+abbrev pub lengthsFields : SharingLengths → List ℕ
+lengthsFields l = l .refusal ∷ l .blocks ∷ l .keys ∷ l .share ∷ l .output ∷ l .opened ∷ []
+
+abbrev pub toldFields : Outcome → List ℕ
+toldFields o =
+    o .number ∷ getD (o .values) 0 0 ∷ getD (o .values) 1 0 ∷ getD (o .values) 2 0 ∷ getD (o .values) 3 0 ∷ getD (o .values) 4 0 ∷ []
 
 -- of a call that answers one value
 abbrev pub answerFields : SharingAnswer → List ℕ

@@ -1,6 +1,7 @@
 // The C boundary. A slice is a pointer and a length; an answer is a struct whose `refusal` is 0 when
 // the call is accepted. Those on padded messages stand in `padded`, those on a pool of keys in `pool`, the opener for
-// a range in `range`, the rebuilding of a share in `rebuild`, the check with the number tried in `tried`.
+// a range in `range`, the rebuilding of a share in `rebuild`, the check with the number tried in `tried`, the lengths of a
+// message in `message_lengths`.
 ghost use mathlib.Core.Path.{_≡_};
 ghost use Rattle.gf256.specs.Byte.{_⊕_, _⊗_, inverse};
 ghost use Rattle.scheme.specs.Limits.{defaultN, defaultR, defaultZ, defaultCounts};
@@ -15,6 +16,7 @@ use interpolation::SIDE;
 use scheme::SchemeAnswer;
 use sharing::Answer;
 
+mod message_lengths;
 mod padded;
 mod pool;
 mod range;

@@ -8,6 +8,7 @@ pub mod PoolSecrecy
 pub mod PaddedOpening
 pub mod PaddedCalls
 pub mod PoolCalls
+pub mod LengthsCalls
 pub mod Range
 pub mod RebuildCalls
 pub mod RebuildSplit

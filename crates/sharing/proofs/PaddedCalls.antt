@@ -89,7 +89,7 @@ module _ {qs : List ℕ} {grounds : List Ground} (tested : Tested qs grounds) (u
   padded-refused-by q (Opened u l) e f = absurd (none-first grounds q (accepted-none tested (used ∷ message ∷ []) (u ∷ l ∷ []) e) f)
   padded-refused-by q (PaddedRefused k) e f = ap PaddedRefused (first-once grounds k q (refused-first tested used k (message ∷ []) e) f)
 
-  padded-answered-by : (a : PaddedAnswer) → paddedOutcome a ≡ answer (firstOf qs) (used ∷ message ∷ []) → PaddedAnsweredBy grounds a
+  pub padded-answered-by : (a : PaddedAnswer) → paddedOutcome a ≡ answer (firstOf qs) (used ∷ message ∷ []) → PaddedAnsweredBy grounds a
   padded-answered-by a e =
       record {
         accepts = (λ told. accepted-none tested (used ∷ message ∷ []) (told .0 ∷ told .1 ∷ []) (sym (ap paddedOutcome (told .2)) ∙ e), opened-by a e);

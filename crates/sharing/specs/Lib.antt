@@ -8,6 +8,7 @@ pub mod PaddedOpening
 pub mod PaddedRoundTrip
 pub mod PaddedCalls
 pub mod PoolCalls
+pub mod Lengths
 pub mod Range
 pub mod Rebuild
 pub mod Divisors

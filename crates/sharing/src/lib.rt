@@ -2,7 +2,8 @@
 // that they meet together as theorems and the worked examples of the rules. A message is split into shares (`dealer`),
 // under keys that are lent with it or the next ones of a pool (`key_pool`), a party hands out the prefix of its share
 // (`party`), and the readers find their Lagrange basis and the message again (`reader`), or only a range of it, or the share
-// of a party that lost it. The calls on a message that shows its own end, by its padding, have `padded` in their names.
+// of a party that lost it. How long all of these are is asked beforehand (`lengths`). The calls on a message that shows its
+// own end, by its padding, have `padded` in their names.
 pub use dealer::split;
 pub use dealer::split_default;
 pub use dealer::split_padded;
@@ -12,6 +13,12 @@ pub use key_pool::split_from_pool;
 pub use key_pool::split_from_pool_default;
 pub use key_pool::split_padded_from_pool;
 pub use key_pool::split_padded_from_pool_default;
+pub use lengths::LengthsAnswer;
+pub use lengths::MessageLengths;
+pub use lengths::lengths;
+pub use lengths::lengths_default;
+pub use lengths::lengths_padded;
+pub use lengths::lengths_padded_default;
 pub use party::prefix;
 pub use party::prefix_default;
 pub use party::prefix_length;

@@ -1,5 +1,6 @@
-// Splits messages, hands out prefixes, makes bases and opens messages and ranges of them, and prints what comes back, for
-// comparison with values that were computed by other means.
+// Splits messages, hands out prefixes, makes bases, opens messages and ranges of them and asks for their lengths, and prints
+// what comes back, for comparison with values that were computed by other means.
+mod asked;
 mod bases;
 mod former;
 mod lent;
@@ -34,4 +35,7 @@ fn main() {
     padded::openings();
     stored::earlier();
     stored::padded();
+    asked::of_scheme_a();
+    asked::refused_twice();
+    asked::by_default();
 }

@@ -35,7 +35,6 @@ mod arithmetic;
 mod boundary;
 mod check;
 mod lengths;
-mod lengths_stand_in;
 mod opening;
 mod pool;
 mod prefix;

@@ -67,10 +67,14 @@ impl Trial {
         position
     }
 
-    /// A run that was killed leaves nothing but so many shares under their names, from the first on.
-    fn has_whole_shares(&self, many: usize) {
+    /// A run that was killed leaves nothing but so many files under their names, the shares from the first on, and about.
+    fn has_whole_files(&self, many: usize) {
         let shares = expected_shares(MESSAGE, &self.keys[START..END]);
-        let names = if self.folder.0.join("shares").exists() { self.folder.names_in("shares") } else { Vec::new() };
+        let mut names = if self.folder.0.join("shares").exists() { self.folder.names_in("shares") } else { Vec::new() };
+        if many > shares.len() {
+            assert_eq!(names.remove(0), "about");
+        }
+        let many = many.min(shares.len());
         assert_eq!(names, (1..=many).map(|party| format!("share-{party}")).collect::<Vec<_>>());
         for (name, share) in names.iter().zip(shares) {
             assert_eq!(self.folder.bytes(&format!("shares/{name}")), share);
@@ -171,7 +175,7 @@ fn killed_at_each_call() {
                 before += (position == START) as usize;
                 after += (position == END) as usize;
                 if way.is_empty() {
-                    trial.has_whole_shares(calls[..at].iter().filter(|call| call.starts_with("link")).count());
+                    trial.has_whole_files(calls[..at].iter().filter(|call| call.starts_with("link")).count());
                 }
                 trial.next_run_works(position);
                 places.insert(call.clone());

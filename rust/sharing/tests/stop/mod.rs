@@ -80,6 +80,7 @@ impl Stop {
         command.args(["-c", shell, "sh", "env"]);
         command.args(self.settings(mode, at).map(|(name, value)| format!("{name}={value}")));
         let program = folder.command(line);
+        command.envs(program.get_envs().filter_map(|(name, value)| Some((name, value?))));
         command.arg(program.get_program()).args(program.get_args()).current_dir(&folder.0);
         self.ended(folder, command.stdout(Stdio::piped()).stderr(Stdio::piped()).spawn().expect("a shell"))
     }

@@ -1,0 +1,3 @@
+mod Told
+pub mod Examples
+pub mod Laws
