@@ -73,6 +73,18 @@ pub fn check(s: &Scheme) -> Agreed {
     expected.map(|_| ())
 }
 
+/// The lengths of a message of so many bytes, in both forms.
+pub fn lengths(s: &Scheme, length: usize) -> Agreed {
+    let expected = reference::lengths::lengths(s.n, s.r, s.z, &s.counts, length);
+    let padded = reference::lengths::lengths_padded(s.n, s.r, s.z, &s.counts, length);
+    assert_eq!(raw::lengths(s.n, s.r, s.z, &s.counts, length), expected, "{s:?}, {length}");
+    assert_eq!(raw::lengths_padded(s.n, s.r, s.z, &s.counts, length), padded, "{s:?}, {length}");
+    if s.is_default() {
+        assert_eq!((raw::lengths_default(length), raw::lengths_padded_default(length)), (expected, padded), "{length}");
+    }
+    expected.map(|_| ())
+}
+
 /// The other implementation's shares.
 pub fn expected_shares(call: &Call, message: &[u8], keys: &[u8]) -> Result<Vec<u8>, u64> {
     let s = &call.scheme;

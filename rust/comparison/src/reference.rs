@@ -7,6 +7,7 @@
 use std::sync::OnceLock;
 
 pub mod archive;
+pub mod lengths;
 pub mod pool;
 pub mod range;
 pub mod rebuild;

@@ -2,8 +2,6 @@
 
 use crate::arguments::Arguments;
 use crate::failure::Failure;
-use crate::scheme::Block;
-use gilunavoi::limits::MAX_MESSAGE;
 
 #[derive(Clone, Copy)]
 pub enum Form {
@@ -27,17 +25,6 @@ impl Form {
             Form::Told(_) => {
                 "Nothing can tell whether the scheme, the length, the parties and the prefixes were the right ones."
             }
-        }
-    }
-
-    /// May a file that has so many bytes of each block be so long?
-    pub fn fits(self, block: &Block, of_a_block: usize, bytes: usize) -> bool {
-        match self {
-            Form::Padded => {
-                let blocks = bytes / of_a_block;
-                bytes == blocks * of_a_block && blocks > 0 && blocks <= block.padded_blocks(MAX_MESSAGE)
-            }
-            Form::Told(length) => bytes == block.blocks(length) * of_a_block,
         }
     }
 }

@@ -58,7 +58,7 @@ impl Range {
     pub fn rows(&self, scheme: &Scheme, block: &Block, d: usize) -> Result<usize, Failure> {
         // A message without a byte has no blocks of which rows could be counted.
         let length = self.end.max(1);
-        let blocks = block.blocks(length.min(MAX_MESSAGE));
+        let blocks = scheme.blocks(length.min(MAX_MESSAGE));
         let parties: Vec<u8> = (1..=scheme.n).take(d).collect();
         let prefixes = vec![0; d * block.prefix_of_block(d) * blocks];
         match self.open(scheme, length, &parties, &prefixes) {

@@ -11,7 +11,6 @@ use crate::scheme::{Block, Scheme};
 use crate::standard::{is_standard, named};
 use crate::target::Target;
 use crate::told::Told;
-use gilunavoi::limits::MAX_MESSAGE;
 use gilunavoi::raw::{self, NotRebuilt};
 use std::collections::BTreeMap;
 use std::ffi::OsString;
@@ -107,10 +106,10 @@ impl Shares {
     fn wrong_length(&self, file: &Input) -> Option<Failure> {
         let (rows, bytes) = (self.block.rows, file.bytes.len());
         if self.told.by_file() {
-            let fits = self.told.form.fits(&self.block, rows, bytes);
+            let fits = self.told.fits(&self.block, rows, bytes);
             return (!fits).then(|| self.told.wrong_length(&self.block, rows, "a whole share", file));
         }
-        let most = self.block.padded_blocks(MAX_MESSAGE);
+        let most = self.block.most;
         let fits = bytes == bytes / rows * rows && bytes / rows <= most;
         let needed = format!("a whole share has {} for each of at most {most} blocks", counted(rows, "byte"));
         (!fits).then(|| self.told.scheme.suspected(Failure::Refused(9, format!("{needed}, and {file}"))))

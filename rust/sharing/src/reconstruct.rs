@@ -123,7 +123,7 @@ impl Opening {
     /// The library takes the earlier form for a range, of which whole blocks, padding and all, are a message too.
     fn padded_range(&self, range: Range) -> Result<Opened, u64> {
         let (blocks, length) = (self.blocks(), self.bytes_in_blocks());
-        let kept = self.block.blocks(length);
+        let kept = self.told.scheme.blocks(length);
         let mut prefixes = joined(&self.prefixes);
         if kept < blocks {
             // A row has a byte of each block.
@@ -154,7 +154,7 @@ impl Opening {
         let d = self.parties.len();
         let of_a_block = self.block.prefix_of_block(d);
         for prefix in &self.prefixes {
-            if !self.told.form.fits(&self.block, of_a_block, prefix.bytes.len()) {
+            if !self.told.fits(&self.block, of_a_block, prefix.bytes.len()) {
                 let what = format!("a prefix for {d} parties");
                 return Err(self.told.wrong_length(&self.block, of_a_block, &what, prefix));
             }

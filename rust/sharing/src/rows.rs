@@ -151,7 +151,7 @@ mod tests {
                 });
                 assert_eq!(origins.len(), group.rows.start * (group.before.unwrap_or(group.d) - group.d), "{scheme}");
             }
-            assert_eq!(keys.len(), block.keys(1), "{scheme}");
+            assert_eq!(keys.len(), block.keys, "{scheme}");
         }
     }
 }

@@ -5,6 +5,7 @@ use crate::failure::Failure;
 use gilunavoi::limits::{DEFAULT_COUNTS, DEFAULT_N, DEFAULT_R, DEFAULT_Z};
 use gilunavoi::limits::{FORMER_DEFAULT_COUNTS, FORMER_DEFAULT_N, FORMER_DEFAULT_R, FORMER_DEFAULT_Z, MAX_MESSAGE};
 use gilunavoi::raw;
+use gilunavoi::Lengths;
 use std::ffi::OsStr;
 use std::fmt;
 
@@ -19,21 +20,14 @@ pub struct Scheme {
     said_by: Option<String>,
 }
 
-/// The lengths of an accepted scheme's block: m bytes in b rows.
+/// The lengths of an accepted scheme's block: m bytes in b rows, and the key bytes that they take.
 pub struct Block {
     pub bytes: usize,
     pub rows: usize,
-    z: usize,
-}
-
-/// The lengths that a message of some length makes.
-pub struct Lengths {
-    pub blocks: usize,
-    /// The key bytes that it takes.
     pub keys: usize,
-    /// One share, and the shares of all parties together.
-    pub share: usize,
-    pub output: usize,
+    /// The blocks of the longest message. No share and no prefix has more.
+    pub most: usize,
+    z: usize,
 }
 
 /// The scheme of the library's calls without one.
@@ -126,37 +120,39 @@ impl Scheme {
 
     /// Asks the library whether the scheme is accepted.
     pub fn check(&self) -> Result<Block, Failure> {
-        match raw::check(self.n, self.r, self.z, &self.counts) {
-            Ok((m, b)) => Ok(Block { bytes: m as usize, rows: b as usize, z: self.z as usize }),
-            Err(number) => Err(Failure::Refused(number, format!("the scheme is {self}{}", self.as_said()))),
-        }
+        self.block().map_err(|number| Failure::Refused(number, format!("the scheme is {self}{}", self.as_said())))
     }
 
-    /// The lengths of a message of so many bytes, in the earlier form or padded.
-    pub fn lengths(&self, unpadded: bool, length: usize) -> Result<Lengths, Failure> {
-        let block = self.check()?;
-        // All from here on is to be one call of the library, which says these lengths and refuses the message.
-        if length > MAX_MESSAGE {
-            return Err(Failure::Refused(5, format!("--length is {length}")));
-        }
-        let blocks = if unpadded { block.blocks(length) } else { block.padded_blocks(length) };
-        let share = blocks * block.rows;
-        Ok(Lengths { blocks, keys: block.keys(blocks), share, output: self.n as usize * share })
+    fn block(&self) -> Result<Block, u64> {
+        let (m, b) = raw::check(self.n, self.r, self.z, &self.counts)?;
+        let (bytes, rows, z) = (m as usize, b as usize, self.z as usize);
+        // The earlier form makes one block of so many bytes.
+        let (keys, most) = (self.lengths(true, bytes)?.keys, self.lengths(false, MAX_MESSAGE)?.blocks);
+        Ok(Block { bytes, rows, keys, most, z })
+    }
+
+    /// The lengths of a message of so many bytes, in the earlier form or padded, or the number of the refusal. The library
+    /// says them.
+    pub fn lengths(&self, unpadded: bool, length: usize) -> Result<Lengths, u64> {
+        let lengths = if unpadded { raw::lengths } else { raw::lengths_padded };
+        lengths(self.n, self.r, self.z, &self.counts, length)
+    }
+
+    /// The blocks of a message in the earlier form; none of one that is refused for its length.
+    pub fn blocks(&self, length: usize) -> usize {
+        self.lengths(true, length).map_or(0, |lengths| lengths.blocks)
     }
 
     /// What of such a message each party sends where d are read from, d one of the counts. The library says it of a share
     /// of zeros; what is in a share does not change it.
-    pub fn sent(&self, unpadded: bool, length: usize, d: usize) -> Result<usize, Failure> {
+    pub fn sent(&self, unpadded: bool, length: usize, d: usize) -> Result<usize, u64> {
         let share = vec![0; self.lengths(unpadded, length)?.share];
-        let answer = if unpadded {
+        let bytes = if unpadded {
             raw::prefix(self.n, self.r, self.z, &self.counts, length, d, &share)
         } else {
             raw::prefix_padded(self.n, self.r, self.z, &self.counts, d, &share)
         };
-        match answer {
-            Ok(bytes) => Ok(bytes as usize),
-            Err(number) => Err(Failure::Refused(number, format!("--length is {length}, and the scheme is {self}"))),
-        }
+        Ok(bytes? as usize)
     }
 }
 
@@ -175,23 +171,7 @@ impl fmt::Display for Scheme {
     }
 }
 
-/// The lengths are those of a message that is not refused for its own length; a number that anyone
-/// might type could be too large to multiply.
 impl Block {
-    /// The blocks of a message in the earlier form, where the last one is padded if it is not full.
-    pub fn blocks(&self, message: usize) -> usize {
-        message.div_ceil(self.bytes)
-    }
-
-    /// The blocks of a padded message, which knows its own end.
-    pub fn padded_blocks(&self, message: usize) -> usize {
-        message / self.bytes + 1
-    }
-
-    pub fn keys(&self, blocks: usize) -> usize {
-        blocks * self.z * self.rows
-    }
-
     /// The bytes of one block in a prefix when d parties are read from, d one of the counts.
     pub fn prefix_of_block(&self, d: usize) -> usize {
         self.bytes / (d - self.z)

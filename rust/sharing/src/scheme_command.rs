@@ -20,7 +20,8 @@ pub fn run(arguments: &Arguments) -> Done {
     let mut text = format!("{scheme}\n{}{}", of_a_block(&block), ramp(&scheme));
     text += &block_table(&scheme, &block, range)?;
     if let Some(message) = message {
-        text += &message.costs(&scheme)?;
+        let refused = |number| Failure::Refused(number, format!("--length is {}", message.length));
+        text += &message.costs(&scheme).map_err(refused)?;
     }
     match drawing {
         None => say(&text),
@@ -33,7 +34,7 @@ pub fn run(arguments: &Arguments) -> Done {
 
 fn of_a_block(block: &Block) -> String {
     let (bytes, rows) = (counted(block.bytes, "byte"), counted(block.rows, "row"));
-    format!("A block has {bytes} in {rows}, and takes {}.\n", counted(block.keys(1), "key byte"))
+    format!("A block has {bytes} in {rows}, and takes {}.\n", counted(block.keys, "key byte"))
 }
 
 /// What of a block is fetched for each count, and what of that a range needs.
@@ -72,7 +73,7 @@ impl Message {
     }
 
     /// Its keys and shares, and what of them is fetched for each count.
-    fn costs(&self, scheme: &Scheme) -> Result<String, Failure> {
+    fn costs(&self, scheme: &Scheme) -> Result<String, u64> {
         let lengths = scheme.lengths(self.unpadded, self.length)?;
         let mut text = format!(
             "A message of {}{} makes {} and takes {}.\nA share of it has {}, and all {} shares together have {}.\n",

@@ -7,11 +7,12 @@ use crate::files::{read, Input, Output};
 use crate::form::Form;
 use crate::pool::{check_no_pool, Pool};
 use crate::report::counted;
-use crate::scheme::{Block, Scheme};
+use crate::scheme::Scheme;
 use crate::standard::{check_folder, check_once};
 use crate::{date, digest};
 use gilunavoi::limits::MAX_MESSAGE;
 use gilunavoi::raw::{self, KeyPool};
+use gilunavoi::Lengths;
 use std::ffi::{OsStr, OsString};
 use std::path::{Path, PathBuf};
 
@@ -64,83 +65,61 @@ struct Splitting {
     /// The scheme, the form and what else its readers are told, and the file that tells it.
     about: About,
     about_file: String,
-    block: Block,
     message: Input,
     /// What is split: the message, and its check where one is wanted.
     contents: Vec<u8>,
+    lengths: Lengths,
 }
 
 impl Splitting {
     fn new(arguments: &Arguments, message: PathBuf) -> Result<Splitting, Failure> {
         let (checked, label, date) = (arguments.flag("--checked"), about::label_of(arguments)?, date::today()?);
         let scheme = Scheme::of(arguments)?;
-        let block = scheme.check()?;
+        scheme.check()?;
         let message = read(message)?;
         let contents = if checked { digest::with_check(&message.bytes)? } else { message.bytes.clone() };
-        let form = if arguments.flag("--unpadded") { Form::Told(contents.len()) } else { Form::Padded };
+        let unpadded = arguments.flag("--unpadded");
+        let lengths = scheme.lengths(unpadded, contents.len());
+        let lengths = lengths.map_err(|number| Failure::Refused(number, too_long(&message, checked)))?;
+        let form = if unpadded { Form::Told(contents.len()) } else { Form::Padded };
         let about = About { scheme, form, checked, date, label };
-        Ok(Splitting { about_file: about.to_string(), about, block, message, contents })
+        Ok(Splitting { about_file: about.to_string(), about, message, contents, lengths })
     }
 
     fn is_unpadded(&self) -> bool {
         matches!(self.about.form, Form::Told(_))
     }
 
-    fn blocks(&self) -> usize {
-        match self.about.form {
-            Form::Padded => self.block.padded_blocks(self.contents.len()),
-            Form::Told(length) => self.block.blocks(length),
-        }
-    }
-
-    /// The length of a share.
-    fn share(&self) -> usize {
-        self.blocks() * self.block.rows
-    }
-
-    fn room(&self) -> Vec<u8> {
-        vec![0; self.about.scheme.n as usize * self.share()]
-    }
-
     /// The shares, party after party.
     fn shares(&self, keys: &Input) -> Result<Vec<u8>, Failure> {
-        let mut shares = self.room();
+        let mut shares = vec![0; self.lengths.output];
         let Scheme { n, r, z, ref counts, .. } = self.about.scheme;
         let split = if self.is_unpadded() { raw::split } else { raw::split_padded };
         let answer = split(n, r, z, counts, &self.contents, &keys.bytes, &mut shares);
         answer.map_err(|number| match number {
             8 => self.other_keys_needed(8, keys.to_string()),
-            _ => Failure::Refused(number, self.given()),
+            _ => Failure::Refused(number, self.message.to_string()),
         })?;
         Ok(shares)
     }
 
     /// The same with the next keys of a pool, and the record that follows.
     fn shares_from(&self, pool: &Pool) -> Result<(Vec<u8>, KeyPool), Failure> {
-        let (mut shares, mut record) = (self.room(), pool.record());
+        let (mut shares, mut record) = (vec![0; self.lengths.output], pool.record());
         let Scheme { n, r, z, ref counts, .. } = self.about.scheme;
         let split = if self.is_unpadded() { raw::split_from_pool } else { raw::split_padded_from_pool };
         let answer = split(&mut record, n, r, z, counts, &self.contents, &pool.keys.bytes, &mut shares);
         answer.map_err(|number| match number {
             16 if pool.fits() => self.other_keys_needed(16, format!("{:?} has {} left", pool.folder, pool.left())),
             16 => pool.misfit(),
-            _ => Failure::Refused(number, self.given()),
+            _ => Failure::Refused(number, self.message.to_string()),
         })?;
         Ok((shares, record))
     }
 
-    /// How long the message is, for a refusal.
-    fn given(&self) -> String {
-        let (message, check, most) = (&self.message, digest::LENGTH, MAX_MESSAGE - digest::LENGTH);
-        if self.about.checked {
-            return format!("{message}, and the check takes {check} more: with --checked a message has at most {most}");
-        }
-        message.to_string()
-    }
-
     /// The refusal of keys that are too few, or other than so many.
     fn other_keys_needed(&self, number: u64, given: String) -> Failure {
-        let (needed, used) = (counted(self.block.keys(self.blocks()), "byte"), self.about.scheme.used());
+        let (needed, used) = (counted(self.lengths.keys, "byte"), self.about.scheme.used());
         Failure::Refused(number, format!("it needs {needed}, and {given}\nthe scheme is {used}"))
     }
 
@@ -151,13 +130,13 @@ impl Splitting {
 
     /// What stands under each of the names.
     fn files<'a>(&'a self, shares: &'a [u8]) -> Vec<&'a [u8]> {
-        let part = |party: usize| &shares[party * self.share()..(party + 1) * self.share()];
+        let part = |party: usize| &shares[party * self.lengths.share..][..self.lengths.share];
         (0..self.about.scheme.n as usize).map(part).chain([self.about_file.as_bytes()]).collect()
     }
 
     fn report(&self, folder: &Path) -> String {
         let scheme = &self.about.scheme;
-        let (n, bytes, used) = (scheme.n, counted(self.share(), "byte"), scheme.used());
+        let (n, bytes, used) = (scheme.n, counted(self.lengths.share, "byte"), scheme.used());
         let mut told =
             format!("{n} shares of {bytes} are in {folder:?}, share-1 to share-{n}.\nThe scheme is {used}.\n");
         if self.about.checked {
@@ -178,4 +157,13 @@ impl Splitting {
         };
         format!("Keep the {length}: it is needed to open the message, and the shares do not hold it.\n")
     }
+}
+
+/// How long a message is that is refused for it.
+fn too_long(message: &Input, checked: bool) -> String {
+    let (check, most) = (digest::LENGTH, MAX_MESSAGE - digest::LENGTH);
+    if checked {
+        return format!("{message}, and the check takes {check} more: with --checked a message has at most {most}");
+    }
+    message.to_string()
 }

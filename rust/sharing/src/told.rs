@@ -9,7 +9,6 @@ use crate::form::Form;
 use crate::report::counted;
 use crate::scheme::{Block, Scheme};
 use crate::standard::named;
-use gilunavoi::limits::MAX_MESSAGE;
 use std::path::Path;
 
 pub struct Told {
@@ -91,17 +90,27 @@ impl Told {
         }
     }
 
+    /// May a file that has so many bytes of each block be so long?
+    pub fn fits(&self, block: &Block, of_a_block: usize, bytes: usize) -> bool {
+        match self.form {
+            Form::Padded => {
+                let blocks = bytes / of_a_block;
+                bytes == blocks * of_a_block && (1..=block.most).contains(&blocks)
+            }
+            Form::Told(length) => bytes == self.scheme.blocks(length) * of_a_block,
+        }
+    }
+
     /// The refusal of a file that may not be so long.
     pub fn wrong_length(&self, block: &Block, of_a_block: usize, what: &str, file: &Input) -> Failure {
         let needed = match (self.form, &self.about) {
             (Form::Padded, _) => {
-                let most = block.padded_blocks(MAX_MESSAGE);
-                format!("{what} has {} for each of 1 to {most} blocks", counted(of_a_block, "byte"))
+                format!("{what} has {} for each of 1 to {} blocks", counted(of_a_block, "byte"), block.most)
             }
             (Form::Told(length), about) => {
                 let by_file = |about: &Origin| format!("the length in {}, {length},", about.name);
                 let told = about.as_ref().map_or(format!("--length {length}"), by_file);
-                format!("with {told} {what} has {}", counted(block.blocks(length) * of_a_block, "byte"))
+                format!("with {told} {what} has {}", counted(self.scheme.blocks(length) * of_a_block, "byte"))
             }
         };
         self.scheme.suspected(Failure::Refused(9, format!("{needed}, and {file}\n{}", self.hint())))

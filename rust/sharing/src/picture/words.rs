@@ -20,7 +20,7 @@ pub fn introduction(scheme: &Scheme, block: &Block) -> String {
         scheme.n,
         counted(block.bytes, "byte"),
         counted(block.rows, "row"),
-        counted(block.keys(1), "key byte")
+        counted(block.keys, "key byte")
     )
 }
 
