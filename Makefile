@@ -42,7 +42,7 @@ program: $(library)
 	$(CARGO) build --release $(cargo_words)
 
 demo: $(library)
-	$(CARGO) run --quiet --release $(cargo_words) --example demo
+	@$(CARGO) run --quiet --release $(cargo_words) --example demo
 
 check:
 	.ci/run
