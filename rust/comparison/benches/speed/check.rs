@@ -6,6 +6,7 @@ use super::{Reconstruct, Split};
 use comparison::cases::{falling_lists, parties, Form, Scheme};
 use comparison::random::Random;
 use comparison::{calls, reference};
+use gilunavoi::limits::MAX_MESSAGE;
 use gilunavoi::raw;
 use std::hint::black_box;
 use std::rc::Rc;
@@ -29,6 +30,10 @@ fn check(s: &Scheme) {
 
 fn check_tried(s: &Scheme) {
     _ = black_box(raw::check_tried(s.n, s.r, s.z, &s.counts));
+}
+
+fn lengths(s: &Scheme) {
+    _ = black_box(raw::lengths_padded(s.n, s.r, s.z, &s.counts, MAX_MESSAGE));
 }
 
 pub fn shape(s: &Scheme) -> String {
@@ -126,6 +131,9 @@ fn small_calls(random: &mut Random, scheme: &Scheme) -> Vec<(String, Program)> {
         let scheme = scheme.clone();
         programs.push((format!("    {name}"), Program::new(0, move || check(&scheme))));
     }
+    // Of the longest message: the lengths take little more than the check, whatever the message.
+    let asked = scheme.clone();
+    programs.push(("    lengths, 16,384 bytes".into(), Program::new(0, move || lengths(&asked))));
     let split = Split::new(random, Form::Padded, scheme, 1);
     let lowest = *scheme.counts.last().expect("an accepted scheme has counts");
     let reconstruct = Reconstruct::new(&split, parties(random, scheme.n, lowest));
