@@ -60,14 +60,15 @@ built:
 # Files that name the version or a place are filled in where they are installed. `install` makes them, for their mode.
 fill = sed -e 's|@VERSION@|$(VERSION)|' -e "s|@PREFIX@|$$PREFIX|" -e "s|@LIBDIR@|$$LIBDIR|"
 
-pages = README.md CHANGELOG.md LICENSE NOTICE
-more_pages = $(wildcard docs/*.md)
+# The pages stand as they do here, so that their links lead somewhere.
+pages = README.md CHANGELOG.md CONTRIBUTING.md LICENSE NOTICE
+more_pages = $(wildcard docs/*.md docs/changes/*.md docs/pictures/*.svg)
 
 # mkdir and not install -d, which would change the mode of folders that are there already.
 install: built
 	umask 022 && mkdir -p "$$DESTDIR$$PREFIX/bin" "$$DESTDIR$$PREFIX/include" "$$DESTDIR$$LIBDIR/pkgconfig" \
 	    "$$DESTDIR$$PREFIX/share/man/man1" "$$DESTDIR$$PREFIX/share/bash-completion/completions" \
-	    "$$DESTDIR$$PREFIX/share/doc/gilunavoi/docs"
+	    "$$DESTDIR$$PREFIX/share/doc/gilunavoi/docs/changes" "$$DESTDIR$$PREFIX/share/doc/gilunavoi/docs/pictures"
 	install -m 755 $(program) "$$DESTDIR$$PREFIX/bin/sharing"
 	install -m 644 include/sharing.h "$$DESTDIR$$PREFIX/include/sharing.h"
 	install -m 644 $(library) "$$DESTDIR$$LIBDIR/libsharing.a"
@@ -77,7 +78,9 @@ install: built
 	$(fill) docs/sharing.1 >"$$DESTDIR$$PREFIX/share/man/man1/sharing.1"
 	install -m 644 tools/completion.bash "$$DESTDIR$$PREFIX/share/bash-completion/completions/sharing"
 	install -m 644 $(pages) "$$DESTDIR$$PREFIX/share/doc/gilunavoi"
-	install -m 644 $(more_pages) "$$DESTDIR$$PREFIX/share/doc/gilunavoi/docs"
+	for page in $(more_pages); do \
+	    install -m 644 "$$page" "$$DESTDIR$$PREFIX/share/doc/gilunavoi/$$page" || exit; \
+	done
 
 # Folders that other programs use too stay.
 uninstall:
