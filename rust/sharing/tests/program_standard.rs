@@ -247,3 +247,13 @@ fn help() {
     let all = Folder::new("standard-help").says("--help").replace('\n', " ");
     assert!(all.contains("- is standard input, once in a command line.") && all.contains("given as ./-"), "{all}");
 }
+
+/// A picture goes the same way as other results.
+#[test]
+fn pictures() {
+    let folder = Folder::new("standard-picture");
+    let said = folder.says("scheme 7,4,1,7,4,3 --picture drawn.svg");
+    let (picture, aside) = writes(&folder, "scheme 7,4,1,7,4,3 --picture -", b"");
+    assert_eq!(picture, folder.bytes("drawn.svg"));
+    assert_eq!(aside, said.replace("in \"drawn.svg\"", "on standard output"));
+}
