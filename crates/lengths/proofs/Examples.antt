@@ -20,6 +20,9 @@ pub examples :
     -- in the default scheme, where z is 2, both forms make 6 blocks of 33 bytes
     × (lengthsAnswer defaultParameters 33 ≡ accepted (6 ∷ 72 ∷ 36 ∷ 180 ∷ 33 ∷ []))
     × (lengthsPaddedAnswer defaultParameters 33 ≡ accepted (6 ∷ 72 ∷ 36 ∷ 180 ∷ 36 ∷ []))
+    -- where m, b, r and z all differ: 6 bytes in 3 rows
+    × (lengthsAnswer (parameters 5 1 2 (5 ∷ 4 ∷ [])) 6 ≡ accepted (1 ∷ 6 ∷ 3 ∷ 15 ∷ 6 ∷ []))
+    × (lengthsPaddedAnswer (parameters 5 1 2 (5 ∷ 4 ∷ [])) 6 ≡ accepted (2 ∷ 12 ∷ 6 ∷ 30 ∷ 12 ∷ []))
     -- the longest message, and one that is longer
     × (lengthsAnswer schemeA 16384 ≡ accepted (8192 ∷ 16384 ∷ 16384 ∷ 49152 ∷ 16384 ∷ []))
     × (lengthsPaddedAnswer schemeA 16384 ≡ accepted (8193 ∷ 16386 ∷ 16386 ∷ 49158 ∷ 16386 ∷ []))
@@ -29,4 +32,4 @@ pub examples :
     × (lengthsAnswer (parameters 14 7 1 (14 ∷ 12 ∷ 7 ∷ [])) 16385 ≡ refused 4)
     × (lengthsPaddedAnswer (parameters 14 7 1 (14 ∷ 12 ∷ 7 ∷ [])) 16385 ≡ refused 4)
 unfolding divides firstFrom commonMultiple blockLength falls partiesRefused thresholdsRefused countsRefused blockRefused firstOf answer refusal rowsOfBlock blockCount paddedCount lengthsRefusal lengthsFor
-examples = (refl, refl, refl, refl, refl, refl, refl, refl, refl, refl, refl, refl)
+examples = (refl, refl, refl, refl, refl, refl, refl, refl, refl, refl, refl, refl, refl, refl)

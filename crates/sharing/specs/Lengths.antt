@@ -1,5 +1,5 @@
 -- The call for the lengths of a message in words, as Calls.antt has it for the others; and that they serve: with the lengths that it answered no test of
--- a slice's length refuses a split or an opening, and with any other length one does. Over the form of message. proofs/LengthsCalls.antt proves it.
+-- a slice's length refuses a split, or an opening from prefixes of so many blocks, and with any other length one does. Over the form of message. proofs/LengthsCalls.antt proves it.
 -- Assumes nothing.
 use mathlib.Core.Path.{_≡_}
 use mathlib.Core.Bool.{true}

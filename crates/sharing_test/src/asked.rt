@@ -11,6 +11,11 @@ pub(crate) fn of_scheme_a() {
     with_scheme(3, 1, 1, &[3, 2], 16385);
 }
 
+// Where m, b, r and z all differ: 6 bytes fill a block of 3 rows, with 2 key bytes each.
+pub(crate) fn of_other_numbers() {
+    with_scheme(5, 1, 2, &[5, 4], 6);
+}
+
 // The scheme is refused first, also of a message that is too long.
 pub(crate) fn refused_twice() {
     with_scheme(10, 4, 1, &[10, 9, 8, 6], 16385);

@@ -36,6 +36,7 @@ fn main() {
     stored::earlier();
     stored::padded();
     asked::of_scheme_a();
+    asked::of_other_numbers();
     asked::refused_twice();
     asked::by_default();
 }
