@@ -24,7 +24,7 @@ export DESTDIR PREFIX LIBDIR
 # Two proofs at once would write into the same folder.
 .NOTPARALLEL:
 .DELETE_ON_ERROR:
-.PHONY: all program demo check bench built install uninstall deb version clean distclean help
+.PHONY: all program demo check bench built places install uninstall deb version clean distclean help
 
 all: $(library) program
 
@@ -57,6 +57,18 @@ built:
 	    [ -f "$$file" ] || { echo "$$file is not there: run 'make' first" >&2; exit 1; }; \
 	done
 
+# These two are written into files by sed, and a compiler gets them as words of pkg-config's answer, wherever it runs.
+# DESTDIR stands in no file, and may be anything.
+places:
+	@for place in "$$PREFIX" "$$LIBDIR"; do \
+	    case $$place in \
+	    '' | [!/]* | *[[:space:]\&\|\\\"\'\$$\#\`]*) \
+	        printf "PREFIX and LIBDIR start with / and have no white space and none of %s: '%s' will not do\n" \
+	            '& | \ " '\'' $$ # `' "$$place" >&2; \
+	        exit 1 ;; \
+	    esac; \
+	done
+
 # Files that name the version or a place are filled in where they are installed. `install` makes them, for their mode.
 fill = sed -e 's|@VERSION@|$(VERSION)|' -e "s|@PREFIX@|$$PREFIX|" -e "s|@LIBDIR@|$$LIBDIR|"
 
@@ -65,7 +77,7 @@ pages = README.md CHANGELOG.md CONTRIBUTING.md LICENSE NOTICE
 more_pages = $(wildcard docs/*.md docs/changes/*.md docs/pictures/*.svg)
 
 # mkdir and not install -d, which would change the mode of folders that are there already.
-install: built
+install: places built
 	umask 022 && mkdir -p "$$DESTDIR$$PREFIX/bin" "$$DESTDIR$$PREFIX/include" "$$DESTDIR$$LIBDIR/pkgconfig" \
 	    "$$DESTDIR$$PREFIX/share/man/man1" "$$DESTDIR$$PREFIX/share/bash-completion/completions" \
 	    "$$DESTDIR$$PREFIX/share/doc/gilunavoi/docs/changes" "$$DESTDIR$$PREFIX/share/doc/gilunavoi/docs/pictures"
@@ -83,7 +95,7 @@ install: built
 	done
 
 # Folders that other programs use too stay.
-uninstall:
+uninstall: places
 	rm -f "$$DESTDIR$$PREFIX/bin/sharing" "$$DESTDIR$$PREFIX/include/sharing.h" "$$DESTDIR$$LIBDIR/libsharing.a" \
 	    "$$DESTDIR$$LIBDIR/pkgconfig/sharing.pc" "$$DESTDIR$$PREFIX/share/man/man1/sharing.1" \
 	    "$$DESTDIR$$PREFIX/share/bash-completion/completions/sharing"

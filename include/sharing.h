@@ -1,10 +1,10 @@
 /*
  * Secret sharing by staircase polynomials over bytes, and archives of shares: the C boundary of the
- * proved libraries (x86-64). Link target/libsharing.a, which tools/library makes of what
- * `rt staticlib exports` and `rt staticlib archive_exports` write. It needs nothing but the C library's
- * memcpy and memset, and every name in it starts with `sharing_`. The calls on bytes and on archives had
- * other names before, which stand at the end: define SHARING_NO_OLD_NAMES before this file is included to
- * have names of your own in their place.
+ * proved libraries (x86-64). Link libsharing.a: installed, pkg-config finds it by the name `sharing`; in the
+ * repository it is target/libsharing.a, which `make` makes. It needs nothing but the C library's memcpy and
+ * memset. Every name in it starts with `sharing_`, but for seven: the calls on bytes and on archives had other
+ * names before, which are still there and stand at the end of this file. They are weak: define
+ * SHARING_NO_OLD_NAMES before this file is included to have names of your own in their place.
  *
  * A scheme is n parties, of which r may be absent and z may collude, and a falling list of counts:
  * the numbers of parties from which a message can be reconstructed. With d parties, d one of the
@@ -71,10 +71,11 @@
  * for more, which stands beside its record, sharing_key_pool.
  *
  * Memory: no call allocates, or keeps anything for the next one. It works on what it is lent and on its
- * stack, of which it needs at most SHARING_STACK bytes: rebuilding a share about 43 KB, opening about 23 KB,
- * all others less than 3 KB. So it was measured; it is not proved. Copies of the message and of keys stay on
- * the stack after the call. Where that matters, overwrite SHARING_STACK bytes of the stack from the same place
- * afterwards, or call in a thread whose stack is yours and overwrite that when the thread has ended.
+ * stack, of which it needs at most SHARING_STACK bytes: rebuilding a share at most 44 KB, opening at most 24 KB,
+ * all others less than 3 KB. Where a loader looks for memcpy in the first call only, that one needs 3 KB more.
+ * So it was measured; it is not proved. Copies of the message and of keys stay on the stack after the call.
+ * Where that matters, overwrite SHARING_STACK bytes of the stack from the same place afterwards, or call in a
+ * thread whose stack is yours and overwrite that when the thread has ended.
  *
  * Threads: any number of calls may run at once, also one in a signal handler that interrupted another, as
  * long as nobody else writes what a call reads, or touches what it writes: `out`, and of a pool its record

@@ -1,7 +1,8 @@
 /*
  * How much stack the calls need: each runs on a stack of its own that was filled with a pattern, and the lowest byte
- * that is another afterwards tells how deep it wrote. That is held to what include/sharing.h says. Counted is from the
- * frame of the caller on, so the caller's own bytes, less than 512, are among it.
+ * that is another afterwards tells how deep it wrote. That is held to what include/sharing.h says of opening, of
+ * rebuilding and of all other calls. Counted is from the frame of the caller on, so the caller's own bytes, less than
+ * 512, are among it.
  * Without a word the schemes are a few that need the most; `stack survey NUMBER` takes as many at random besides.
  */
 #define _GNU_SOURCE
@@ -13,6 +14,8 @@
 #include <ucontext.h>
 
 enum { STACK = 1 << 18, PATTERN = 0xa5, ROOM = 1 << 19 };
+/* What the header says: less than 3 KB, at most 24 KB and at most 44 KB. */
+enum { ANY = 3 * 1024 - 1, OPENING = 24 * 1024, REBUILDING = 44 * 1024 };
 static uint8_t stack[STACK];
 static ucontext_t here, there;
 static const uint8_t *frame;
@@ -30,6 +33,8 @@ static uint64_t refusal;
 static void nothing(void) { refusal = 0; }
 static void check(void) { refusal = sharing_check(SCHEME).refusal; }
 static void check_tried(void) { refusal = sharing_check_tried(SCHEME).refusal; }
+static void lengths(void) { refusal = sharing_lengths(SCHEME, length).refusal; }
+static void lengths_padded(void) { refusal = sharing_lengths_padded(SCHEME, length).refusal; }
 static void split(void) {
     refusal = sharing_split(SCHEME, message, length, keys, keys_length, shares, out_length).refusal;
 }
@@ -59,6 +64,41 @@ static void reconstruct_padded(void) {
 static void rebuild(void) {
     refusal = sharing_rebuild(SCHEME, parties, many, prefixes, sent, wanted, shares, held, out, share).refusal;
 }
+/* The same in the default scheme. */
+static void check_default(void) { refusal = sharing_check_default().refusal; }
+static void check_tried_default(void) { refusal = sharing_check_tried_default().refusal; }
+static void lengths_default(void) { refusal = sharing_lengths_default(length).refusal; }
+static void lengths_padded_default(void) { refusal = sharing_lengths_padded_default(length).refusal; }
+static void split_default(void) {
+    refusal = sharing_split_default(message, length, keys, keys_length, shares, out_length).refusal;
+}
+static void split_padded_default(void) {
+    refusal = sharing_split_padded_default(message, length, keys, keys_length, shares, out_length).refusal;
+}
+static void split_from_pool_default(void) {
+    refusal = sharing_split_from_pool_default(&pool, message, length, keys, keys_length, shares, out_length).refusal;
+}
+static void split_padded_from_pool_default(void) {
+    refusal = sharing_split_padded_from_pool_default(
+        &pool, message, length, keys, keys_length, shares, out_length).refusal;
+}
+static void prefix_default(void) { refusal = sharing_prefix_default(length, many, shares, share).refusal; }
+static void prefix_padded_default(void) { refusal = sharing_prefix_padded_default(many, shares, share).refusal; }
+static void basis_default(void) { refusal = sharing_basis_default(parties, many).refusal; }
+static void reconstruct_default(void) {
+    refusal = sharing_reconstruct_default(length, parties, many, prefixes, sent, out, length).refusal;
+}
+static void reconstruct_range_default(void) {
+    refusal = sharing_reconstruct_range_default(
+        length, start, length - start, parties, many, prefixes, sent, out, length - start).refusal;
+}
+static void reconstruct_padded_default(void) {
+    refusal = sharing_reconstruct_padded_default(parties, many, prefixes, sent, out, out_length).refusal;
+}
+static void rebuild_default(void) {
+    refusal = sharing_rebuild_default(parties, many, prefixes, sent, wanted, shares, held, out, share).refusal;
+}
+
 static void gf256(void) {
     refusal = sharing_gf256_add(3, 5) + sharing_gf256_mul(3, 5) + sharing_gf256_mul_by_shifting(3, 5) +
               sharing_gf256_inverse(3).inverse;
@@ -71,18 +111,32 @@ static void archive_write(void) {
 static void archive_count(void) { refusal = sharing_archive_count(out, 17).refusal; }
 static void archive_entry(void) { refusal = sharing_archive_entry(out, 17, 1).refusal; }
 
+/* A call, its form in the default scheme where it has one, and what the header allows them. */
 static struct measure {
     const char *name;
-    void (*call)(void);
-    size_t least, most;
+    void (*call)(void), (*by_default)(void);
+    size_t allowed, least, most;
 } measures[] = {
-    {"nothing", nothing, 0, 0}, {"check", check, 0, 0}, {"check_tried", check_tried, 0, 0}, {"split", split, 0, 0},
-    {"split_padded", split_padded, 0, 0}, {"split_from_pool", split_from_pool, 0, 0},
-    {"split_padded_from_pool", split_padded_from_pool, 0, 0}, {"prefix", prefix, 0, 0},
-    {"prefix_padded", prefix_padded, 0, 0}, {"basis", basis, 0, 0}, {"reconstruct", reconstruct, 0, 0},
-    {"reconstruct_range", reconstruct_range, 0, 0}, {"reconstruct_padded", reconstruct_padded, 0, 0},
-    {"rebuild", rebuild, 0, 0}, {"gf256", gf256, 0, 0}, {"archive_write", archive_write, 0, 0},
-    {"archive_count", archive_count, 0, 0}, {"archive_entry", archive_entry, 0, 0},
+    {"nothing", nothing, NULL, ANY, 0, 0},
+    {"check", check, check_default, ANY, 0, 0},
+    {"check_tried", check_tried, check_tried_default, ANY, 0, 0},
+    {"lengths", lengths, lengths_default, ANY, 0, 0},
+    {"lengths_padded", lengths_padded, lengths_padded_default, ANY, 0, 0},
+    {"split", split, split_default, ANY, 0, 0},
+    {"split_padded", split_padded, split_padded_default, ANY, 0, 0},
+    {"split_from_pool", split_from_pool, split_from_pool_default, ANY, 0, 0},
+    {"split_padded_from_pool", split_padded_from_pool, split_padded_from_pool_default, ANY, 0, 0},
+    {"prefix", prefix, prefix_default, ANY, 0, 0},
+    {"prefix_padded", prefix_padded, prefix_padded_default, ANY, 0, 0},
+    {"basis", basis, basis_default, ANY, 0, 0},
+    {"reconstruct", reconstruct, reconstruct_default, OPENING, 0, 0},
+    {"reconstruct_range", reconstruct_range, reconstruct_range_default, OPENING, 0, 0},
+    {"reconstruct_padded", reconstruct_padded, reconstruct_padded_default, OPENING, 0, 0},
+    {"rebuild", rebuild, rebuild_default, REBUILDING, 0, 0},
+    {"gf256", gf256, NULL, ANY, 0, 0},
+    {"archive_write", archive_write, NULL, ANY, 0, 0},
+    {"archive_count", archive_count, NULL, ANY, 0, 0},
+    {"archive_entry", archive_entry, NULL, ANY, 0, 0},
 };
 
 static void (*running)(void);
@@ -106,16 +160,31 @@ static size_t depth(void (*call)(void)) {
     return (size_t)(frame - (stack + untouched));
 }
 
-static void measure(void (*call)(void), uint64_t expected) {
-    struct measure *m = measures;
+static void measure_one(struct measure *m, void (*call)(void), uint64_t expected) {
     size_t bytes = depth(call);
-    while (m->call != call) m++;
     if (refusal != expected) {
         printf("%s: refusal %d, expected was %d\n", m->name, (int)refusal, (int)expected);
         exit(1);
     }
     if (bytes > m->most) m->most = bytes;
     if (m->least == 0 || bytes < m->least) m->least = bytes;
+}
+
+static int is_default(void) {
+    static const uint8_t numbers[] = SHARING_DEFAULT_COUNTS;
+    return n == SHARING_DEFAULT_N && r == SHARING_DEFAULT_R && z == SHARING_DEFAULT_Z &&
+           counts_length == sizeof numbers && memcmp(counts, numbers, sizeof numbers) == 0;
+}
+
+static void measure(void (*call)(void), uint64_t expected) {
+    struct measure *m = measures;
+    while (m->call != call) m++;
+    measure_one(m, call, expected);
+    if (m->by_default && is_default()) {
+        /* The call before took all keys of the pool. */
+        pool.position = 0;
+        measure_one(m, m->by_default, expected);
+    }
 }
 
 /* The first `each` bytes of the share of every party, one after another. */
@@ -172,6 +241,7 @@ static void message_of(size_t bytes) {
         out_length = share * n;
         pool.length = keys_length;
         pool.position = 0;
+        measure(padded ? lengths_padded : lengths, 0);
         measure(padded ? split_padded_from_pool : split_from_pool, 0);
         measure(padded ? split_padded : split, 0);
         opening(padded);
@@ -234,8 +304,11 @@ int main(int argc, char **argv) {
         }
     for (size_t i = 0; i < sizeof measures / sizeof *measures; i++) {
         printf("%-22s %6d to %6d bytes\n", measures[i].name, (int)measures[i].least, (int)measures[i].most);
-        if (measures[i].most > SHARING_STACK) failed = 1;
+        if (measures[i].most > measures[i].allowed || measures[i].allowed > SHARING_STACK) {
+            printf("include/sharing.h says that it needs at most %d bytes of stack, and none more than %d\n",
+                (int)measures[i].allowed, SHARING_STACK);
+            failed = 1;
+        }
     }
-    if (failed) printf("include/sharing.h says that a call needs at most %d bytes of stack\n", SHARING_STACK);
     return failed;
 }

@@ -41,23 +41,23 @@ fn folder() -> Result<PathBuf, String> {
         return Ok(built);
     }
     if built.join("staticlib/libexports.a").exists() && built.join("staticlib/libarchive_exports.a").exists() {
-        return Err(format!("the proved libraries are built, but not {LIBRARY}: run `make`, or `tools/library`"));
+        return Err(format!(
+            "the proved libraries are built, but not {LIBRARY}: run `make` in the repository, or `tools/library`; or name \
+             the folder of another one in SHARING_LIB_DIR"
+        ));
     }
-    let in_repository = root.join("tools/library").exists();
-    if in_repository {
+    if root.join("tools/library").exists() {
         // Once it is built it is to be taken, also where another one is installed.
         println!("cargo:rerun-if-changed={}", built.join(LIBRARY).display());
     }
     if let Some(installed) = installed().filter(|folder| folder.join(LIBRARY).exists()) {
         return Ok(installed);
     }
-    if in_repository {
-        return Err(format!(
-            "{LIBRARY} is not built: run `make`, or `tools/library` after `rt staticlib exports` and \
-             `rt staticlib archive_exports`"
-        ));
-    }
-    Err(format!("{LIBRARY} is not installed: install it, or name its folder in SHARING_LIB_DIR"))
+    // Cargo's own copy of the repository, for a package that depends on it, looks like one in which somebody works.
+    Err(format!(
+        "{LIBRARY} was not found: run `make` in the repository, if you work there; else install the library with \
+         `make install`, or name its folder in SHARING_LIB_DIR"
+    ))
 }
 
 /// What pkg-config knows. It is asked for the folder and not for flags, since it leaves out those of the usual folders.

@@ -252,7 +252,8 @@ fn together(random: &mut Random) {
         assert!(out == shares.unwrap_or(vec![0; call.shares]), "{call:?}");
         assert_eq!((pool.record(), pool.left()), (&run.record, run.left()), "{call:?}");
         if random.below(5) == 0 {
-            pool = Pool::resumed(run.bytes.clone(), pool.record().position);
+            let &KeyPool { length, position } = pool.record();
+            pool = Pool::resumed(run.bytes.clone(), KeyPool { length, position });
         }
     }
 }
@@ -267,7 +268,7 @@ fn bytes_and_record_together() {
 /// The rules' examples, from a pool: 5 7 under 9 4, and 5 7 1 under 9 4 2 6. The byte 200 was taken before.
 #[test]
 fn examples() {
-    let mut pool = Pool::resumed(vec![200, 9, 4, 9, 4, 2, 6], 1);
+    let mut pool = Pool::resumed(vec![200, 9, 4, 9, 4, 2, 6], KeyPool { length: 7, position: 1 });
     let scheme = gilunavoi::Scheme::new(3, 1, 1, &[3, 2]).expect("scheme A");
     let (earlier, padded) = (gilunavoi::Form::Earlier, gilunavoi::Form::Padded);
     let mut shares = [0; 6];
@@ -280,8 +281,10 @@ fn examples() {
     assert_eq!(scheme.split_from_pool(earlier, &mut pool, &[], &mut []), Ok(0));
     assert_eq!(scheme.split_from_pool(padded, &mut pool, &[], &mut shares), Err(Refusal::Pool));
     assert_eq!(pool.record(), &KeyPool { length: 7, position: 7 });
-    // A position past the end was stored.
-    let mut past = Pool::resumed(vec![9, 4], 3);
-    let refused = scheme.split_from_pool(earlier, &mut past, &[], &mut []);
-    assert_eq!((past.left(), refused), (0, Err(Refusal::Pool)));
+    // A position past the end was stored, or not all bytes.
+    for (length, position) in [(2, 3), (3, 0)] {
+        let mut unfit = Pool::resumed(vec![9, 4], KeyPool { length, position });
+        let refused = scheme.split_from_pool(earlier, &mut unfit, &[], &mut []);
+        assert_eq!((unfit.left(), refused), (0, Err(Refusal::Pool)));
+    }
 }

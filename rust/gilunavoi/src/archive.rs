@@ -14,6 +14,7 @@
 //! # Ok::<(), Refusal>(())
 //! ```
 
+use crate::limits::{MAX_ENTRIES, MAX_OFFSET_OR_LENGTH};
 use crate::raw;
 use crate::refusal::length;
 use crate::Refusal;
@@ -25,10 +26,21 @@ use crate::Refusal;
 /// [`ArchiveCount`](Refusal::ArchiveCount) if there are too many, [`ArchiveEntries`](Refusal::ArchiveEntries) if they make
 /// no archive.
 pub fn write(entries: &[&[u8]]) -> Result<Vec<u8>, Refusal> {
-    let (contents, lengths): (_, Vec<usize>) = (entries.concat(), entries.iter().map(|entry| entry.len()).collect());
+    // One more than there may be is refused as all of them would be.
+    let entries = &entries[..entries.len().min(MAX_ENTRIES + 1)];
+    let lengths: Vec<usize> = entries.iter().map(|entry| entry.len()).collect();
+    // Too many bytes are not joined, since the memory may not be there: their lengths alone are refused, with no bytes.
+    let contents = if may_fit(&lengths) { entries.concat() } else { Vec::new() };
     let mut file = vec![0; raw::archive::file_length(lengths.len(), contents.len())];
     length(raw::archive::write(&contents, &lengths, &mut file))?;
     Ok(file)
+}
+
+/// Whether entries of these lengths are not more than the longest archive has, whose last one starts at the greatest offset
+/// and has the greatest length. Which of them do fit says the library.
+fn may_fit(lengths: &[usize]) -> bool {
+    let bytes = lengths.iter().fold(0_usize, |sum, &length| sum.saturating_add(length));
+    lengths.len() <= MAX_ENTRIES && bytes <= 2 * MAX_OFFSET_OR_LENGTH
 }
 
 /// A file that the library accepted as an archive.

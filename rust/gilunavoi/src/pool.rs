@@ -26,9 +26,9 @@ use std::sync::atomic::{compiler_fence, Ordering};
 ///
 /// # What is the caller's
 ///
-/// The bytes are drawn evenly at random, kept as secret as the messages, and in no second pool. Where a pool is stored, the
-/// position of its [`record`](Pool::record) is safe on the disk after a split and before its shares are handed out; where it
-/// cannot be stored, they are thrown away. A stored pool is never copied to be used twice, and not put back from a backup.
+/// The bytes are drawn evenly at random, kept as secret as the messages, and in no second pool. Where a pool is stored, its
+/// [`record`](Pool::record) is safe on the disk after a split and before its shares are handed out; where it cannot be
+/// stored, they are thrown away. A stored pool is never copied to be used twice, and not put back from a backup.
 /// After `fork` only one of the two processes goes on using it.
 ///
 /// # Used keys
@@ -45,12 +45,32 @@ pub struct Pool {
 impl Pool {
     /// A pool of bytes that were drawn evenly at random and of which none was taken.
     pub fn new(bytes: Vec<u8>) -> Pool {
-        Pool::resumed(bytes, 0)
+        let record = KeyPool { length: bytes.len(), position: 0 };
+        Pool { bytes, record }
     }
 
-    /// One that was stored: the bytes before the position were taken. If it is past the end, every call refuses it, 16.
-    pub fn resumed(bytes: Vec<u8>, position: usize) -> Pool {
-        let mut pool = Pool { record: KeyPool { length: bytes.len(), position }, bytes };
+    /// One that was stored: all of its bytes, and its record as the last split left it. The bytes before the position were
+    /// taken, and need not be what they were.
+    ///
+    /// Where the record does not fit, since the bytes were cut or are another pool's, or the position is past the end, every
+    /// call refuses it with [`Refusal::Pool`](crate::Refusal::Pool).
+    ///
+    /// ```
+    /// use gilunavoi::raw::KeyPool;
+    /// use gilunavoi::{Form, Pool, Refusal, Scheme};
+    ///
+    /// let (bytes, mut shares) = (vec![9, 4, 2, 6, 7], [0; 6]);
+    /// let scheme = Scheme::new(3, 1, 1, &[3, 2])?;
+    /// let mut pool = Pool::resumed(bytes.clone(), KeyPool { length: 5, position: 2 });
+    /// assert_eq!(scheme.split_from_pool(Form::Earlier, &mut pool, &[5, 7], &mut shares), Ok(2));
+    /// assert_eq!((pool.record(), pool.left()), (&KeyPool { length: 5, position: 4 }, 1));
+    ///
+    /// let mut cut = Pool::resumed(bytes[..4].to_vec(), KeyPool { length: 5, position: 2 });
+    /// assert_eq!(scheme.split_from_pool(Form::Earlier, &mut cut, &[5, 7], &mut shares), Err(Refusal::Pool));
+    /// # Ok::<(), Refusal>(())
+    /// ```
+    pub fn resumed(bytes: Vec<u8>, record: KeyPool) -> Pool {
+        let mut pool = Pool { bytes, record };
         pool.overwrite_taken(0);
         pool
     }
@@ -61,9 +81,18 @@ impl Pool {
         &self.record
     }
 
-    /// How many bytes were not taken.
+    /// How many bytes were not taken. Of a pool whose record does not fit none can be: 0.
     pub fn left(&self) -> usize {
-        self.record.length.saturating_sub(self.record.position)
+        if self.fits() {
+            self.record.length - self.record.position
+        } else {
+            0
+        }
+    }
+
+    /// Whether the record can be that of these bytes.
+    fn fits(&self) -> bool {
+        self.record.length == self.bytes.len() && self.record.position <= self.record.length
     }
 
     /// Lends the record and the bytes to a call that splits, and overwrites the keys that it took.
@@ -74,11 +103,11 @@ impl Pool {
         answer
     }
 
-    /// Overwrites the bytes from a place to the position. No call reads bytes before the position.
+    /// Overwrites the bytes from a place to the position. No call reads bytes before the position. Where the record does not
+    /// fit, which of them were taken is not known.
     fn overwrite_taken(&mut self, from: usize) {
-        let end = self.record.position.min(self.bytes.len());
-        if let Some(taken) = self.bytes.get_mut(from..end) {
-            overwrite(taken);
+        if self.fits() {
+            overwrite(&mut self.bytes[from..self.record.position]);
         }
     }
 }
@@ -112,7 +141,7 @@ mod tests {
     #[test]
     fn used_keys_are_overwritten() {
         let scheme = Scheme::new(3, 1, 1, &[3, 2]).expect("a scheme");
-        let mut pool = Pool::resumed((1..=9).collect(), 1);
+        let mut pool = Pool::resumed((1..=9).collect(), KeyPool { length: 9, position: 1 });
         assert_eq!(pool.bytes, [0, 2, 3, 4, 5, 6, 7, 8, 9]);
         assert_eq!(scheme.split_from_pool(Form::Padded, &mut pool, &[5], &mut [0; 6]), Ok(2));
         assert_eq!(pool.bytes, [0, 0, 0, 4, 5, 6, 7, 8, 9]);
@@ -121,10 +150,21 @@ mod tests {
         assert_eq!(format!("{pool:?}"), "Pool { record: KeyPool { length: 9, position: 3 }, .. }");
     }
 
+    /// Bytes that were cut, more bytes than there were, and positions past the end. Nothing is taken or overwritten.
     #[test]
-    fn a_position_past_the_end() {
-        let mut pool = Pool::resumed(vec![9, 4], 3);
-        let refused = Scheme::default().split_from_pool(Form::Earlier, &mut pool, &[], &mut []);
-        assert_eq!((refused, pool.left(), pool.record().position), (Err(Refusal::Pool), 0, 3));
+    fn records_that_do_not_fit() {
+        for (length, position) in [(3, 0), (3, 1), (1, 1), (2, 3), (3, 3), (0, 0), (0, 1), (usize::MAX, usize::MAX)] {
+            let mut pool = Pool::resumed(vec![9, 4], KeyPool { length, position });
+            // Also a message that takes none.
+            let refused = Scheme::default().split_from_pool(Form::Earlier, &mut pool, &[], &mut []);
+            assert_eq!((refused, pool.left()), (Err(Refusal::Pool), 0), "{pool:?}");
+            assert_eq!((pool.record(), &pool.bytes[..]), (&KeyPool { length, position }, &[9, 4][..]));
+        }
+    }
+
+    #[test]
+    fn all_were_taken() {
+        let pool = Pool::resumed(vec![9, 4], KeyPool { length: 2, position: 2 });
+        assert_eq!((pool.left(), &pool.bytes[..]), (0, &[0, 0][..]));
     }
 }

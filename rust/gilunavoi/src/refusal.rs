@@ -120,7 +120,7 @@ impl fmt::Display for Refusal {
             MessageTooLong => write!(f, "the message is longer than {MAX_MESSAGE} bytes"),
             NotACount => f.write_str("the number of parties that are read from must be one of the scheme's counts"),
             Parties => f.write_str("the parties must be different numbers from 1 to N"),
-            KeyLength => f.write_str("the key file has another length than this message needs"),
+            KeyLength => f.write_str("the keys have another length than this message needs"),
             ShareLength => f.write_str(
                 "a share or prefix has a length that it cannot have in this scheme, or for a message of this length",
             ),

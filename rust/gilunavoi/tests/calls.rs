@@ -124,13 +124,13 @@ fn splitting_from_pools() {
     let (mut random, mut accepted) = (Random(2), Accepted(0));
     let (mut bytes, mut record, mut pool) = (Vec::new(), KeyPool { length: 0, position: 0 }, Pool::new(Vec::new()));
     for _ in 0..CALLS {
-        // Now and then a pool of fresh keys, of which some were taken.
+        // Now and then a pool of fresh keys, of which some were taken, and some may be lost.
         if record.length <= record.position || random.below(20) == 0 {
             let length = 1 + random.below(4000);
             bytes = random.bytes(length);
-            let position = random.below(20);
+            let (length, position) = (random.about(length), random.below(20));
             record = KeyPool { length, position };
-            pool = Pool::resumed(bytes.clone(), position);
+            pool = Pool::resumed(bytes.clone(), KeyPool { length, position });
         }
         let case = case(&mut random);
         let ((n, r, z, counts), message) = (case.numbers(), &case.message[..]);
@@ -143,7 +143,8 @@ fn splitting_from_pools() {
         };
         let expected = split(&mut record, n, r, z, counts, message, &bytes, &mut other);
         assert_eq!((answer, &out, pool.record()), (expected, &other, &record));
-        assert_eq!(pool.left(), record.length.saturating_sub(record.position));
+        let fits = record.length == bytes.len();
+        assert_eq!(pool.left(), if fits { record.length.saturating_sub(record.position) } else { 0 });
         accepted.count(&answer);
     }
     accepted.enough();
