@@ -2,7 +2,7 @@
 
 use folder::{text, Folder};
 use shares_folder::{folder_with_shares, of};
-use std::fs;
+use std::fs::{self, OpenOptions};
 use std::io::Write;
 use std::process::{Output, Stdio};
 
@@ -228,6 +228,8 @@ fn closed_and_full() {
         folder.shell_fails(&format!("exec \"$0\" {line} >/dev/full"), "sharing: cannot write to standard output: ");
         let closed = "sharing: cannot write to standard output: it is closed\n";
         folder.shell_fails(&format!("exec \"$0\" {line} >&-"), closed);
+        let other = "sharing: cannot write to standard output: it is not open for writing\n";
+        folder.shell_fails(&format!("exec \"$0\" {line} 1</dev/null"), other);
         // The reader is gone before anything is written.
         let (reader, writer) = std::io::pipe().expect("a pipe");
         drop(reader);
@@ -238,8 +240,30 @@ fn closed_and_full() {
     for line in ["split - keys piped", "split --unpadded message - piped", "prefix --readers 3 - -", "pool new pool -"]
     {
         folder.shell_fails(&format!("exec \"$0\" {line} <&-"), "sharing: cannot read standard input: it is closed\n");
+        let other = "sharing: cannot read standard input: it is not open for reading\n";
+        folder.shell_fails(&format!("exec \"$0\" {line} 0>/dev/null"), other);
     }
     assert_eq!(folder.names(), left);
+}
+
+/// A report that arrives nowhere is no report: nothing is kept. What is open in both directions serves as both.
+#[test]
+fn directions() {
+    let folder = folder_with_shares("standard-directions");
+    let left = folder.names();
+    for line in ["split message keys more", "pool new pool keys", "prefix --readers 3 shares/share-1 out", "scheme"] {
+        let other = "sharing: cannot write to standard output: it is not open for writing\n";
+        folder.shell_fails(&format!("exec \"$0\" {line} 1</dev/null"), other);
+    }
+    assert_eq!(folder.names(), left);
+    let both = |name: &str| {
+        let mut how = OpenOptions::new();
+        how.read(true).write(true).create(true).truncate(false).open(folder.0.join(name)).expect("a file")
+    };
+    let mut run = folder.command("prefix --readers 4 - -");
+    let status = run.stdin(both("shares/share-2")).stdout(both("out")).status().expect("it runs");
+    assert!(status.success());
+    assert_eq!(folder.bytes("out"), folder.bytes("shares/share-2")[..15]);
 }
 
 #[test]
