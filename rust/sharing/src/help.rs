@@ -150,7 +150,9 @@ sharing split [--scheme N,R,Z,D1,D2..] [--unpadded] [--checked] [--label TEXT] M
 
 Splits the file MESSAGE, of at most {MAX_MESSAGE} bytes, into one share a party: FOLDER/share-1 and so on. The
 folder is made if it does not exist. The message is padded, so that it knows its own end: a byte 128 follows
-it, and zeros up to the end of that byte's block. A message that fills its blocks takes one block more.
+it, and zeros up to the end of that byte's block. A message that fills its blocks takes one block more. The report
+says how many bytes the message has, and where it has none a note on standard error does: look at it before the
+message is destroyed, all the more where it came through a pipe.
 
 FOLDER/about says how it was split, in lines of text: the scheme, the form and, with --unpadded, the length, the
 check, today's date in UTC, or that of SOURCE_DATE_EPOCH where that is set, and the label. It holds nothing that

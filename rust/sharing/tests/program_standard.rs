@@ -54,12 +54,44 @@ fn splits() {
     let (message, keys) = (folder.bytes("message"), folder.bytes("keys"));
     for (line, input) in [("split - keys", &message), ("split message -", &keys)] {
         let said = says(&folder, &format!("{line} piped"), input);
-        assert!(said.starts_with("5 shares of 30 bytes are in \"piped\", share-1 to share-5.\n"), "{said}");
+        let told = "5 shares of 30 bytes are in \"piped\", share-1 to share-5.\nThe message has 25 bytes.\n";
+        assert!(said.starts_with(told), "{said}");
         for party in 1..=5 {
             assert_eq!(folder.bytes(&format!("piped/share-{party}")), folder.bytes(&format!("shares/share-{party}")));
         }
         folder.remove("piped");
     }
+}
+
+/// What a command that failed leaves is an empty message: it is split, and both the report and a note say so.
+#[test]
+fn an_empty_message() {
+    let folder = folder_with_shares("standard-empty");
+    folder.write("none", 0);
+    folder.write("pool-keys", 24);
+    folder.says("pool new pool pool-keys");
+    folder.write("keys", 12);
+    for (line, length, note) in [
+        ("split - keys", 6, "standard input has 0 bytes"),
+        ("split none keys", 6, "\"none\" has 0 bytes"),
+        ("split --pool pool -", 6, "standard input has 0 bytes"),
+        ("split --unpadded --pool pool none", 0, "\"none\" has 0 bytes"),
+    ] {
+        let output = fed(&folder, &format!("{line} piped"), b"");
+        let told =
+            format!("5 shares of {length} bytes are in \"piped\", share-1 to share-5.\nThe message has 0 bytes.\n");
+        assert!(text(&output.stdout).starts_with(&told), "{line}: {}", text(&output.stdout));
+        let aside = format!("sharing: the message is empty: {note}\n");
+        assert_eq!((output.status.code(), text(&output.stderr)), (Some(0), aside), "{line}");
+        folder.remove("piped");
+    }
+    // The check is not counted.
+    folder.write("keys", 72);
+    let said = text(&fed(&folder, "split --checked - keys piped", b"").stdout);
+    assert!(said.contains("\nThe message has 0 bytes.\n"), "{said}");
+    folder.remove("piped");
+    let said = says(&folder, "split --checked - keys piped", b"a");
+    assert!(said.contains("\nThe message has 1 byte.\n"), "{said}");
 }
 
 /// Keys that go from where they are drawn into a pool, and are in no file before.
