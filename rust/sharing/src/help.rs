@@ -120,9 +120,9 @@ and all of them together.
   Z         how many may put their shares together and learn nothing, at least 1
   D1,D2..   the counts: numbers of parties to read from, falling, the last one N - R
 
-Any N - R parties open a message. More than Z and fewer than N - R learn part of it, and can confirm a guess of
-all of it, whatever the keys. Only where Z is N - R - 1 there are none of these, as in Shamir's scheme: where it is
-less, the scheme of as many parties that has this is named, and its price.
+Any N - R parties open a message. More than Z and fewer than N - R learn part of it, and can test a guess of all of
+it, whatever the keys: a wrong one hardly ever fits. Only where Z is N - R - 1 there are none of these, as in
+Shamir's scheme: where it is less, the scheme of as many parties that has this is named, and its price.
 
 With --length a second table is of a message of L bytes, and not of a block: before it stand the number of its
 blocks, its key bytes and the bytes of its shares, and beside the bytes to fetch how many times the message

@@ -168,7 +168,7 @@ fn schemes() {
     let sheet = "N 7, R 4, Z 1, counts 7,4,3\n\
         A block has 6 bytes in 3 rows, and takes 3 key bytes.\n\
         1 party learns nothing of a message but its length in blocks, and any 3 open it.\n\
-        2 parties together learn part of it, and can confirm a guess of all of it, whatever the keys.\n\
+        2 parties together learn part of it, and can test a guess of all of it, whatever the keys: a wrong one hardly ever fits.\n\
         Where fewer than 3 shall learn nothing, which is Shamir's promise, take 7,4,2,7,4,3. Its price:\n\
         a share as long as the message, not half as long; 2 key bytes for a message byte, not 1/2;\n\
         1 2/5, 2 and 3 bytes to fetch for a message byte from 7, 4 and 3 parties, not 1 1/6, 1 1/3 and 1 1/2.\n\

@@ -37,13 +37,13 @@ fn who_learns_nothing_or_all() {
 fn who_learns_part() {
     let folder = Folder::new("scheme-ramp");
     let former = "1 party learns nothing of a message but its length in blocks, and any 3 open it.\n\
-        2 parties together learn part of it, and can confirm a guess of all of it, whatever the keys.\n\
+        2 parties together learn part of it, and can test a guess of all of it, whatever the keys: a wrong one hardly ever fits.\n\
         Where fewer than 3 shall learn nothing, which is Shamir's promise, take 5,2,2,5,4,3. Its price:\n\
         a share as long as the message, not half as long; 2 key bytes for a message byte, not 1/2;\n\
         1 2/3, 2 and 3 bytes to fetch for a message byte from 5, 4 and 3 parties, not 1 1/4, 1 1/3 and 1 1/2.\n";
     assert_eq!(ramp(&folder, "5,2,1,5,4,3"), former);
     let nine = "1 party learns nothing of a message but its length in blocks, and any 6 open it.\n\
-        2 to 5 parties together learn part of it, and already 2 can confirm a guess of all of it, whatever the keys.\n\
+        2 to 5 parties together learn part of it, and already 2 can test a guess of all of it, whatever the keys: a wrong one hardly ever fits.\n\
         Where fewer than 6 shall learn nothing, which is Shamir's promise, take 9,3,5,9,8,7,6. Its price:\n\
         a share as long as the message, not a fifth as long; 5 key bytes for a message byte, not 1/5;\n\
         2 1/4, 2 2/3, 3 1/2 and 6 bytes to fetch for a message byte from 9, 8, 7 and 6 parties, \
@@ -52,7 +52,7 @@ fn who_learns_part() {
     // With Z 5 the first three counts, less it, are 11, 10 and 9, and only multiples of 990 are divided by all.
     let fewer_counts =
         "Up to 4 parties together learn nothing of a message but its length in blocks, and any 6 open it.\n\
-        5 parties together learn part of it, and can confirm a guess of all of it, whatever the keys.\n\
+        5 parties together learn part of it, and can test a guess of all of it, whatever the keys: a wrong one hardly ever fits.\n\
         Where fewer than 6 shall learn nothing, which is Shamir's promise, take 16,10,5,6 \
         (its block would be too long with the counts 16,15,14,6). Its price:\n\
         a share as long as the message, not half as long; 5 key bytes for a message byte, not 2;\n\
