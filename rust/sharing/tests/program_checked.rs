@@ -392,7 +392,13 @@ fn usage() {
     for command in ["", "split ", "reconstruct "] {
         assert!(folder.says(&format!("{command}--help")).contains(" [--checked]"), "{command}");
     }
+    assert!(folder.says("--help").contains("reconstruct [--about FILE | [--scheme S] [--length L]] [--checked] OUT "));
     let words = folder.says("reconstruct --help").replace('\n', " ");
+    assert!(
+        words.starts_with("sharing reconstruct [--about FILE | [--scheme N,R,Z,D1,D2..] [--length L]] [--checked] ")
+    );
+    assert!(words.contains("gives --checked beside --about"), "{words}");
     assert!(words.contains("head -c -32") && words.contains("The check is no signature"), "{words}");
     assert!(folder.says("split --help").contains("16352 bytes"));
+    assert!(folder.says("scheme --help").contains("for a letter of 33 bytes 65."));
 }
