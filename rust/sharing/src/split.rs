@@ -46,6 +46,7 @@ fn from_pool(arguments: &Arguments, pool: &OsStr) -> Done {
     if pool.is_empty() {
         return usage("--pool needs the folder of a pool".to_string());
     }
+    check_folder(pool.as_ref(), "POOL")?;
     let [message, folder] = paths(&arguments.words, ["MESSAGE", "FOLDER"])?;
     check_folder(&folder, "FOLDER")?;
     let splitting = Splitting::new(arguments, message)?;

@@ -220,6 +220,10 @@ fn lines_that_are_wrong() {
         (unpadded.replace("33", "16385"), "line 4 is \"length 16385\", and needed is a number up to 16384".to_string()),
         (unpadded.replace("33", "033"), "line 4 is \"length 033\", and needed is a number up to 16384".to_string()),
         (unpadded.replace("33", "-1"), "line 4 is \"length -1\", and needed is a number up to 16384".to_string()),
+        (
+            unpadded.replace("33", "31").replace("date", "check sha256\ndate"),
+            "line 5 tells of a check, which has 32 bytes, and the length before it is 31".to_string(),
+        ),
         (unpadded.replace("33", ""), "line 4 is \"length \", and needed is a number up to 16384".to_string()),
     ] {
         refused(&folder, about.as_bytes(), &why);

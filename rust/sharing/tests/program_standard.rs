@@ -221,9 +221,13 @@ fn usage() {
         let said = fails(&folder, line, b"input", 2);
         assert!(said.starts_with("sharing: - stands for standard input, which can be read once"), "{line}: {said}");
     }
-    for (line, name) in
-        [("split message keys -", "FOLDER"), ("split --pool pool message -", "FOLDER"), ("pool new - keys", "POOL")]
-    {
+    for (line, name) in [
+        ("split message keys -", "FOLDER"),
+        ("split --pool pool message -", "FOLDER"),
+        ("split --pool - message shares", "POOL"),
+        ("pool new - keys", "POOL"),
+        ("pool status -", "POOL"),
+    ] {
         let said = fails(&folder, line, b"", 2);
         assert!(said.starts_with(&format!("sharing: {name} cannot be -: it is a folder")), "{line}: {said}");
     }
