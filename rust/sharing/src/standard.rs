@@ -10,9 +10,13 @@ const INPUT: usize = 0;
 const OUTPUT: usize = 1;
 
 /// The flags that standard input and standard output had when the program was started, or -1 of one that was closed.
-static FLAGS: [AtomicI32; 2] = [AtomicI32::new(0), AtomicI32::new(0)];
+static FLAGS: [AtomicI32; 2] = [AtomicI32::new(BOTH), AtomicI32::new(BOTH)];
 
 const CLOSED: i32 = -1;
+
+/// In which directions a file is open. One is numbered as standard input or output is.
+const DIRECTIONS: i32 = 3;
+const BOTH: i32 = 2;
 
 extern "C" {
     fn fcntl(file: i32, command: i32, ...) -> i32;
@@ -64,14 +68,11 @@ pub fn check_folder(folder: &Path, name: &str) -> Done {
     Ok(())
 }
 
-/// Refuses a file that was closed, or open in the other direction alone: `what` is not to be done with it.
-fn check_open(file: usize, what: &str) -> Result<(), String> {
-    const DIRECTIONS: i32 = 3;
-    const BOTH: i32 = 2;
+/// Says of one of the two why it cannot serve its purpose: it was closed, or open in the other direction alone.
+fn check_open(file: usize, purpose: &str) -> Result<(), String> {
     match FLAGS[file].load(Ordering::Relaxed) {
         CLOSED => Err("it is closed".to_string()),
-        // The directions are numbered as these two files are.
-        flags if ![file as i32, BOTH].contains(&(flags & DIRECTIONS)) => Err(format!("it is not open for {what}")),
+        flags if ![file as i32, BOTH].contains(&(flags & DIRECTIONS)) => Err(format!("it is not open for {purpose}")),
         _ => Ok(()),
     }
 }
