@@ -85,13 +85,8 @@ fn parse(file: &Input) -> Result<About, String> {
     }
     let text = std::str::from_utf8(&file.bytes).map_err(|_| "it is no text in UTF-8".to_string())?;
     let mut lines = Lines::after_first(text)?;
-    let about = About {
-        scheme: lines.scheme()?,
-        form: lines.form()?,
-        checked: lines.check()?,
-        date: lines.date()?,
-        label: lines.label()?,
-    };
+    let (scheme, form) = (lines.scheme()?, lines.form()?);
+    let about = About { scheme, form, checked: lines.check(form)?, date: lines.date()?, label: lines.label()? };
     lines.end()?;
     Ok(about)
 }
@@ -162,11 +157,18 @@ impl<'a> Lines<'a> {
         }
     }
 
-    fn check(&mut self) -> Result<bool, String> {
-        match self.value("check") {
-            None => Ok(false),
-            Some(digest::NAME) => Ok(true),
-            Some(_) => Err(self.wrong(digest::NAME)),
+    /// A length that is told counts the check.
+    fn check(&mut self, form: Form) -> Result<bool, String> {
+        match (self.value("check"), form) {
+            (None, _) => Ok(false),
+            (Some(digest::NAME), Form::Told(length)) if length < digest::LENGTH => {
+                let (line, check) = (self.read, digest::LENGTH);
+                Err(format!(
+                    "line {line} tells of a check, which has {check} bytes, and the length before it is {length}"
+                ))
+            }
+            (Some(digest::NAME), _) => Ok(true),
+            (Some(_), _) => Err(self.wrong(digest::NAME)),
         }
     }
 

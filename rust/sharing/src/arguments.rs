@@ -28,6 +28,27 @@ fn sides(word: &OsStr) -> Option<(&OsStr, &OsStr)> {
     Some((sides.next()?, sides.next()?))
 }
 
+/// Do these words ask for help, before `--`? A word that is the value of an option, as a label may be, does not ask for it.
+pub fn ask_for_help(given: &[OsString], names: &[&str]) -> bool {
+    let mut given = given.iter();
+    while let Some(word) = given.next() {
+        if is_help(word) {
+            return true;
+        }
+        if word == "--" {
+            return false;
+        }
+        if names.iter().any(|name| word == name) && !FLAGS.iter().any(|name| word == name) {
+            given.next();
+        }
+    }
+    false
+}
+
+pub fn is_help(word: &OsStr) -> bool {
+    word == "--help" || word == "-h"
+}
+
 impl Arguments {
     /// Sorts the words into options of the given names and others. After `--` all are others.
     pub fn new(given: &[OsString], names: &[&'static str]) -> Result<Arguments, Failure> {

@@ -2,7 +2,7 @@
 //! messages in `split` and `reconstruct`, those that look after shares in `rebuild`, and the one on schemes in
 //! `scheme_command`.
 
-use crate::arguments::{paths, usage, Arguments};
+use crate::arguments::{ask_for_help, is_help, paths, usage, Arguments};
 use crate::failure::{Done, Failure};
 use crate::files::read;
 use crate::form::Form;
@@ -65,20 +65,26 @@ pub fn run(words: Vec<OsString>) -> Done {
             "a command is missing: scheme, pool, split, prefix, reconstruct, rebuild, check or archive".to_string(),
         );
     };
-    let asks_for_help = |word: &OsString| word == "--help" || word == "-h";
-    if asks_for_help(first) {
+    if is_help(first) {
         return say(&help::all());
     }
     if first == "--version" {
-        return say(concat!("sharing ", env!("CARGO_PKG_VERSION"), "\n"));
+        return version(rest);
     }
     let Some(command) = COMMANDS.iter().find(|command| first == command.name) else {
         return usage(format!("there is no command {first:?}"));
     };
-    if rest.iter().take_while(|word| *word != "--").any(asks_for_help) {
+    if ask_for_help(rest, command.options) {
         return say(&(command.help)());
     }
     (command.run)(&Arguments::new(rest, command.options)?)
+}
+
+fn version(rest: &[OsString]) -> Done {
+    match rest.first() {
+        Some(word) => usage(format!("--version stands alone, and {word:?} was given after it")),
+        None => say(concat!("sharing ", env!("CARGO_PKG_VERSION"), "\n")),
+    }
 }
 
 fn prefix(arguments: &Arguments) -> Done {

@@ -5,7 +5,7 @@
 //! installed on. And an office can look for itself: `head -c -32 opened | sha256sum`.
 
 use crate::failure::Failure;
-use std::io::{self, Write};
+use std::io::{self, ErrorKind, Write};
 use std::process::{Command, Output, Stdio};
 use std::thread;
 
@@ -33,30 +33,54 @@ pub fn without_check(mut opened: Vec<u8>) -> Result<Option<Vec<u8>>, Failure> {
     Ok((sha256(&opened)? == check[..]).then_some(opened))
 }
 
+/// A text whose SHA-256 is known, from FIPS 180, and that digest.
+const KNOWN: &[u8] = b"abc";
+#[rustfmt::skip]
+const DIGEST_OF_KNOWN: [u8; LENGTH] = [
+    0xba, 0x78, 0x16, 0xbf, 0x8f, 0x01, 0xcf, 0xea, 0x41, 0x41, 0x40, 0xde, 0x5d, 0xae, 0x22, 0x23,
+    0xb0, 0x03, 0x61, 0xa3, 0x96, 0x17, 0x7a, 0x9c, 0xb4, 0x10, 0xff, 0x61, 0xf2, 0x00, 0x15, 0xad,
+];
+
+/// The command is tried with a known text first: one that answers something else would make checks that nobody else can
+/// look at, or let everything pass.
 fn sha256(bytes: &[u8]) -> Result<[u8; LENGTH], Failure> {
-    let fails = |why: String| Failure::File(format!("the check cannot be made: {COMMAND} {why}"));
-    let output = run(bytes).map_err(|error| fails(format!("cannot be run: {error}")))?;
-    if !output.status.success() {
-        return Err(fails(format!("failed, with {}", output.status)));
+    if digest_by_command(KNOWN)? != DIGEST_OF_KNOWN {
+        return Err(fails("answers another digest than SHA-256 for a known text"));
     }
-    parse(&output.stdout).ok_or_else(|| fails("answered no digest".to_string()))
+    digest_by_command(bytes)
 }
 
-/// Runs the command that the path finds, with these bytes on its standard input.
-fn run(bytes: &[u8]) -> io::Result<Output> {
+fn fails(why: &str) -> Failure {
+    Failure::File(format!("the check cannot be made: {COMMAND} {why}"))
+}
+
+fn digest_by_command(bytes: &[u8]) -> Result<[u8; LENGTH], Failure> {
+    let (output, fed) = run(bytes).map_err(|error| fails(&format!("cannot be run: {error}")))?;
+    // A command that fails need not have read its input, and its status says more.
+    if !output.status.success() {
+        return Err(fails(&format!("failed, with {}", output.status)));
+    }
+    fed.map_err(|error| match error.kind() {
+        ErrorKind::BrokenPipe => fails("did not read its input"),
+        _ => fails(&format!("cannot be given its input: {error}")),
+    })?;
+    parse(&output.stdout).ok_or_else(|| fails("answered no digest"))
+}
+
+/// Runs the command that the path finds, with these bytes on its standard input: what it answered, and whether all of them
+/// could be written.
+fn run(bytes: &[u8]) -> io::Result<(Output, io::Result<()>)> {
     let mut command = Command::new(COMMAND);
     let mut child = command.stdin(Stdio::piped()).stdout(Stdio::piped()).stderr(Stdio::null()).spawn()?;
     let input = child.stdin.take();
-    // From another thread, so that neither waits for the other whatever the command does with its input.
+    let feed = move || input.map_or(Ok(()), |mut input| input.write_all(bytes));
     thread::scope(|scope| {
-        let feed = scope.spawn(move || input.map_or(Ok(()), |mut input| input.write_all(bytes)));
+        // From another thread, so that neither waits for the other whatever the command does with its input. Where there can
+        // be no thread, the input is closed with what would have written it, and the command comes to its end.
+        let feed = thread::Builder::new().spawn_scoped(scope, feed);
         let output = child.wait_with_output()?;
-        let fed = feed.join().unwrap_or_else(|_| Err(io::Error::other("its input was not written")));
-        // A command that fails need not have read its input, and its status says more.
-        if output.status.success() {
-            fed?;
-        }
-        Ok(output)
+        let fed = feed?.join().unwrap_or_else(|_| Err(io::Error::other("its input was not written")));
+        Ok((output, fed))
     })
 }
 

@@ -1,4 +1,4 @@
-//! The two forms of message, as `prefix` and `reconstruct` are told them, and the lengths that files have in them.
+//! The two forms of message, as `prefix` and `reconstruct` are told them. The lengths that files have in them are in `told`.
 
 use crate::arguments::Arguments;
 use crate::failure::Failure;

@@ -41,7 +41,7 @@ sharing splits a message into shares and opens it again from the beginnings of a
       writes one share a party, and what readers need to know into a file about
   sharing prefix [--about FILE | [--scheme S] [--length L]] --readers D SHARE OUT
       cuts out of a share what its party sends when D parties are read from
-  sharing reconstruct [--about FILE | [--scheme S] [--length L] [--checked]] OUT PARTY=FILE ..
+  sharing reconstruct [--about FILE | [--scheme S] [--length L]] [--checked] OUT PARTY=FILE ..
   sharing reconstruct [--about FILE | [--scheme S] [--length L]] [--range START..END | --first BYTES] OUT PARTY=FILE ..
       opens the message, or a range of it, from what the parties sent
   sharing rebuild [--about FILE | --scheme S] --party P [--held FILE] OUT PARTY=FILE ..
@@ -120,13 +120,14 @@ and all of them together.
   Z         how many may put their shares together and learn nothing, at least 1
   D1,D2..   the counts: numbers of parties to read from, falling, the last one N - R
 
-Any N - R parties open a message. More than Z and fewer than N - R learn part of it, and can confirm a guess of
-all of it, whatever the keys. Only where Z is N - R - 1 there are none of these, as in Shamir's scheme: where it is
-less, the scheme of as many parties that has this is named, and its price.
+Any N - R parties open a message. More than Z and fewer than N - R learn part of it, and can test a guess of all of
+it, whatever the keys: a wrong one hardly ever fits. Only where Z is N - R - 1 there are none of these, as in
+Shamir's scheme: where it is less, the scheme of as many parties that has this is named, and its price.
 
 With --length a second table is of a message of L bytes, and not of a block: before it stand the number of its
 blocks, its key bytes and the bytes of its shares, and beside the bytes to fetch how many times the message
-they are. The message is padded, as split does it; with --unpadded it is of the earlier form.
+they are. The message is padded, as split does it; with --unpadded it is of the earlier form. With a check, as
+split --checked makes it, {CHECK} bytes more are split: give their sum, for a letter of 33 bytes {with_check}.
 
 With --range or --first the first table goes on: how many of the rows that each party sends are needed for these
 bytes of a message, how many bytes of a block those are, from all parties together, and which rows they are, in
@@ -138,6 +139,7 @@ each row, what is copied from where, and which rows each party sends. Of many ro
 
 Spaces may stand for the commas, here and after --scheme. The former default was {former}.
 ",
+        with_check = 33 + CHECK,
         former = Scheme::former_default().in_a_row()
     )
 }
@@ -150,7 +152,9 @@ sharing split [--scheme N,R,Z,D1,D2..] [--unpadded] [--checked] [--label TEXT] M
 
 Splits the file MESSAGE, of at most {MAX_MESSAGE} bytes, into one share a party: FOLDER/share-1 and so on. The
 folder is made if it does not exist. The message is padded, so that it knows its own end: a byte 128 follows
-it, and zeros up to the end of that byte's block. A message that fills its blocks takes one block more.
+it, and zeros up to the end of that byte's block. A message that fills its blocks takes one block more. The report
+says how many bytes the message has, and where it has none a note on standard error does: look at it before the
+message is destroyed, all the more where it came through a pipe.
 
 FOLDER/about says how it was split, in lines of text: the scheme, the form and, with --unpadded, the length, the
 check, today's date in UTC, or that of SOURCE_DATE_EPOCH where that is set, and the label. It holds nothing that
@@ -165,7 +169,8 @@ message, and the shares do not hold it.
 With --checked the SHA-256 of the message, {CHECK} bytes, is put behind it and split with it, so that it is as
 secret as the message: reconstruct --checked then refuses what is not the message that was split. It is
 recommended. The message may have {MAX_CHECKED} bytes, and a length that is printed counts the check. The command
-sha256sum makes it, found by PATH; where it cannot be run, no key is used and nothing is written.
+sha256sum makes it, found by PATH and tried with a known text first; where it cannot be run, or answers another
+digest, no key is used and nothing is written.
 
 This program never draws keys, and a message takes Z of them for each row of each block. Of two messages under
 the same keys a single party learns something of how they differ, so no key byte may be used a second time.
@@ -238,7 +243,7 @@ L is at most 6.
 pub fn reconstruct() -> String {
     format!(
         "\
-sharing reconstruct [--about FILE | [--scheme N,R,Z,D1,D2..] [--length L] [--checked]]
+sharing reconstruct [--about FILE | [--scheme N,R,Z,D1,D2..] [--length L]] [--checked]
                     OUT PARTY=FILE PARTY=FILE ..
 sharing reconstruct [--about FILE | [--scheme N,R,Z,D1,D2..] [--length L]] [--range START..END | --first BYTES]
                     OUT PARTY=FILE PARTY=FILE ..
@@ -257,8 +262,10 @@ check included.
 is taken off and held against the message; where it does not fit, nothing is written and the exit status is 1:
 a false byte, a wrong party, scheme, form, length or number of readers does not pass. Who forgets --checked gets the
 message with {CHECK} bytes more at its end, and no word of it; head -c -{CHECK} takes them off, and sha256sum of what
-is left has to show them. Beside --about it is not needed, but who knows that there is a check can ask for it: an
-about file that tells of none is then not accepted.
+is left has to show them. An about file tells of the check, so that it is looked at without --checked too. But one
+that comes back from the parties proves nothing: where the line is gone from it, nothing is held against the check.
+Who knows that there is one gives --checked beside --about: a file that tells of none is then not accepted, and
+the exit status is 1.
 
 The check is no signature. Shares are linear: parties that know or guess the message, as many as are read from less
 Z, can change their own shares so that a message of their choice opens, with a check that fits. Whole shares of

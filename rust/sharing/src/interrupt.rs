@@ -1,5 +1,6 @@
 //! Signals that end a program. Once files are being made such a signal is only noted, and looked at between two files,
-//! so that what was made is removed first.
+//! so that what was made is removed first. That a file would grow too large is learnt from the call that fails, and not by
+//! the signal for it.
 
 use crate::failure::Failure;
 use std::ptr;
@@ -7,6 +8,9 @@ use std::sync::atomic::{AtomicI32, Ordering};
 
 /// SIGHUP, SIGINT and SIGTERM.
 const SIGNALS: [i32; 3] = [1, 2, 15];
+
+/// SIGXFSZ: a file would become longer than the user's limit allows.
+const FILE_TOO_LARGE: i32 = 25;
 
 /// What may be done about a signal besides calling a function.
 const DEFAULT: usize = 0;
@@ -50,6 +54,12 @@ pub fn hold() {
     }
 }
 
+/// What would make a file too large fails, as where a disk is full: that is reported, and what was made is removed. The
+/// signal would end the program before that.
+pub fn let_large_files_fail() {
+    handle(FILE_TOO_LARGE, IGNORE);
+}
+
 /// What is done about a signal.
 fn handler(number: i32) -> usize {
     let mut old = Action { handler: DEFAULT, blocked: [0; 16], flags: 0, restorer: 0 };
@@ -60,8 +70,8 @@ fn handler(number: i32) -> usize {
 
 fn handle(number: i32, handler: usize) {
     let new = Action { handler, blocked: [0; 16], flags: RESTART, restorer: 0 };
-    // SAFETY: the action has the layout that is expected, and is only read. Its handler is the default, or `note`, which takes
-    // a number and stores it in one step, as a handler may at any time.
+    // SAFETY: the action has the layout that is expected, and is only read. Its handler is the default, none, or `note`, which
+    // takes a number and stores it in one step, as a handler may at any time.
     unsafe { sigaction(number, &new, ptr::null_mut()) };
 }
 

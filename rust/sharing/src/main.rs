@@ -36,6 +36,7 @@ mod told;
 use std::process::ExitCode;
 
 fn main() -> ExitCode {
+    interrupt::let_large_files_fail();
     match commands::run(std::env::args_os().skip(1).collect()) {
         Ok(()) => ExitCode::SUCCESS,
         Err(failure) => failure.tell(),

@@ -62,6 +62,7 @@ fn new(words: &[OsString]) -> Done {
 
 fn status(words: &[OsString]) -> Done {
     let [folder] = paths(words, ["POOL"])?;
+    check_folder(&folder, "POOL")?;
     let pool = Pool::to_look_at(&folder)?;
     pool.check()?;
     let KeyPool { length, position } = pool.record();

@@ -21,10 +21,10 @@ pub fn ramp(scheme: &Scheme) -> String {
     }
 }
 
-/// The keys of Z shares follow from a guess of the message, and with them every other share: one share more shows whether
-/// it is the one that was split.
+/// The keys of Z shares follow from a guess of the message, and with them every other share: a wrong guess fits one share
+/// more by chance alone.
 fn part(fewest: u8, most: u8) -> String {
-    let guess = "can confirm a guess of all of it, whatever the keys";
+    let guess = "can test a guess of all of it, whatever the keys: a wrong one hardly ever fits";
     if fewest == most {
         format!("{fewest} parties together learn part of it, and {guess}.\n")
     } else {

@@ -53,16 +53,26 @@ impl Scheme {
     }
 
     /// The scheme of as many parties in which fewer than open a message learn nothing, if this one is accepted and is not
-    /// such a scheme. It has the same counts, or where its block would be too long the last of them alone.
+    /// such a scheme. It has the same counts, or where its block would be too long as many of them as it can have, the last
+    /// one included; of several such schemes it is the one with the larger counts.
     pub fn with_shamirs_promise(&self) -> Option<Scheme> {
-        let (n, r, enough) = (self.n, self.r, self.enough());
-        let with = |counts: &[u8]| Scheme::named(n, r, enough - 1, counts);
-        let same_counts = with(&self.counts);
-        match same_counts.check() {
-            _ if self.z == enough - 1 => None,
-            Ok(_) => Some(same_counts),
-            Err(_) => Some(with(&[enough])),
+        let z = self.enough() - 1;
+        if self.z == z {
+            return None;
         }
+        let is_accepted = |counts: &Vec<u8>| raw::check(self.n, self.r, z, counts).is_ok();
+        let kept = self.choices_of_counts().filter(is_accepted).max_by_key(|counts| (counts.len(), counts.clone()));
+        kept.map(|counts| Scheme::named(self.n, self.r, z, &counts))
+    }
+
+    /// The counts, in all ways of leaving some of them out, but for the last one.
+    fn choices_of_counts(&self) -> impl Iterator<Item = Vec<u8>> + '_ {
+        let (others, last) = self.counts.split_at(self.counts.len() - 1);
+        (0..1_u32 << others.len()).map(move |choice| {
+            let is_kept = |&(place, _): &(usize, &u8)| choice >> place & 1 == 1;
+            let kept = others.iter().enumerate().filter(is_kept).map(|(_, count)| count);
+            kept.chain(last).copied().collect()
+        })
     }
 
     /// N, R, Z and the counts, in one word or in several; the default scheme where there is none.

@@ -6,7 +6,7 @@ use crate::failure::{Done, Failure};
 use crate::files::{read, Input, Output};
 use crate::form::Form;
 use crate::pool::{check_no_pool, Pool};
-use crate::report::counted;
+use crate::report::{counted, note};
 use crate::scheme::Scheme;
 use crate::standard::{check_folder, check_once};
 use crate::{date, digest};
@@ -32,7 +32,9 @@ fn with_key_file(arguments: &Arguments) -> Done {
     let shares = splitting.shares(&read(keys)?)?;
     let mut output = Output::in_folder(&folder, splitting.names())?;
     output.write(&splitting.files(&shares))?;
-    output.keep(&splitting.report(&folder))
+    output.keep(&splitting.report(&folder))?;
+    splitting.note_if_empty();
+    Ok(())
 }
 
 /// The order of these steps is what a pool is for: a failure before the keys are marked as used leaves all as it was, and
@@ -44,6 +46,7 @@ fn from_pool(arguments: &Arguments, pool: &OsStr) -> Done {
     if pool.is_empty() {
         return usage("--pool needs the folder of a pool".to_string());
     }
+    check_folder(pool.as_ref(), "POOL")?;
     let [message, folder] = paths(&arguments.words, ["MESSAGE", "FOLDER"])?;
     check_folder(&folder, "FOLDER")?;
     let splitting = Splitting::new(arguments, message)?;
@@ -57,7 +60,9 @@ fn from_pool(arguments: &Arguments, pool: &OsStr) -> Done {
     pool.mark_used(record)?;
     let told = format!("{}{}.\n", splitting.report(&folder), pool.told(&format!("{used} used for this message")));
     let kept = pool.settle().and_then(|()| output.write(&splitting.files(&shares))).and_then(|()| output.keep(&told));
-    kept.map_err(|failure| Failure::Besides(Box::new(failure), pool.told(&format!("{used} used all the same"))))
+    kept.map_err(|failure| Failure::Besides(Box::new(failure), pool.told(&format!("{used} used all the same"))))?;
+    splitting.note_if_empty();
+    Ok(())
 }
 
 /// A message that is to be split, and how.
@@ -137,8 +142,9 @@ impl Splitting {
     fn report(&self, folder: &Path) -> String {
         let scheme = &self.about.scheme;
         let (n, bytes, used) = (scheme.n, counted(self.lengths.share, "byte"), scheme.used());
-        let mut told =
-            format!("{n} shares of {bytes} are in {folder:?}, share-1 to share-{n}.\nThe scheme is {used}.\n");
+        let mut told = format!("{n} shares of {bytes} are in {folder:?}, share-1 to share-{n}.\n");
+        // Who destroys the message after this can see here that all of it was there.
+        told += &format!("The message has {}.\nThe scheme is {used}.\n", counted(self.message.bytes.len(), "byte"));
         if self.about.checked {
             told += &format!("A check of {} bytes is split with the message: ", digest::LENGTH);
             told += "reconstruct with --about, or --checked, looks at it and takes it off.\n";
@@ -146,6 +152,13 @@ impl Splitting {
         told += &self.length_to_keep();
         let about = folder.join(about::NAME);
         told + &format!("What readers need to know, and nothing secret, is in {about:?}: give it to every party.\n")
+    }
+
+    /// An empty message may be one, but mostly it is what a command that failed has left of one.
+    fn note_if_empty(&self) {
+        if self.message.bytes.is_empty() {
+            note(&format!("the message is empty: {}", self.message));
+        }
     }
 
     /// Of the earlier form the length has to be told; it is that of what was split.

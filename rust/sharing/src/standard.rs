@@ -4,27 +4,36 @@ use crate::arguments::usage;
 use crate::failure::{Done, Failure};
 use std::io::Write;
 use std::path::Path;
-use std::sync::atomic::{AtomicBool, Ordering};
+use std::sync::atomic::{AtomicI32, Ordering};
 
 const INPUT: usize = 0;
 const OUTPUT: usize = 1;
 
-/// Whether standard input and standard output were closed when the program was started.
-static CLOSED: [AtomicBool; 2] = [AtomicBool::new(false), AtomicBool::new(false)];
+/// The flags that standard input and standard output had when the program was started, or -1 of one that was closed.
+static FLAGS: [AtomicI32; 2] = [AtomicI32::new(BOTH), AtomicI32::new(BOTH)];
+
+const CLOSED: i32 = -1;
+
+/// In which directions a file is open. One is numbered as standard input or output is.
+const DIRECTIONS: i32 = 3;
+const BOTH: i32 = 2;
 
 extern "C" {
     fn fcntl(file: i32, command: i32, ...) -> i32;
 }
 
 extern "C" fn look() {
-    const FLAGS_OF_FILE: i32 = 1;
-    for (file, closed) in CLOSED.iter().enumerate() {
-        closed.store(unsafe { fcntl(file as i32, FLAGS_OF_FILE) } == -1, Ordering::Relaxed);
+    const GET_FLAGS: i32 = 3;
+    for (file, flags) in FLAGS.iter().enumerate() {
+        // SAFETY: this command takes nothing else, changes nothing and may be given any number: of a file that is not open
+        // it answers -1. Nothing of Rust has to be ready for it, nor for a store into a static variable.
+        flags.store(unsafe { fcntl(file as i32, GET_FLAGS) }, Ordering::Relaxed);
     }
 }
 
-/// What is closed Rust opens as /dev/null before `main`: all that is written would seem to arrive, and nothing would seem
-/// to be an empty file. What stands in this section runs earlier.
+/// What is closed Rust opens as /dev/null before `main`, and what is open in the other direction alone it takes for that:
+/// all that is written would seem to arrive, and nothing would seem to be an empty file. What stands in this section runs
+/// earlier.
 #[used]
 #[link_section = ".init_array"]
 static LOOK: extern "C" fn() = look;
@@ -59,20 +68,25 @@ pub fn check_folder(folder: &Path, name: &str) -> Done {
     Ok(())
 }
 
-pub fn input() -> Result<std::io::Stdin, Failure> {
-    if CLOSED[INPUT].load(Ordering::Relaxed) {
-        return Err(Failure::File("cannot read standard input: it is closed".to_string()));
+/// Says of one of the two why it cannot serve its purpose: it was closed, or open in the other direction alone.
+fn check_open(file: usize, purpose: &str) -> Result<(), String> {
+    match FLAGS[file].load(Ordering::Relaxed) {
+        CLOSED => Err("it is closed".to_string()),
+        flags if ![file as i32, BOTH].contains(&(flags & DIRECTIONS)) => Err(format!("it is not open for {purpose}")),
+        _ => Ok(()),
     }
-    Ok(std::io::stdin())
+}
+
+pub fn input() -> Result<std::io::Stdin, Failure> {
+    let open = check_open(INPUT, "reading").map(|()| std::io::stdin());
+    open.map_err(|reason| Failure::File(format!("cannot read standard input: {reason}")))
 }
 
 /// Writes all of it, where `print!` would end the program if nobody reads.
 pub fn write(bytes: &[u8]) -> Done {
-    let written = if CLOSED[OUTPUT].load(Ordering::Relaxed) {
-        Err("it is closed".to_string())
-    } else {
+    let written = check_open(OUTPUT, "writing").and_then(|()| {
         let mut out = std::io::stdout();
         out.write_all(bytes).and_then(|()| out.flush()).map_err(|error| error.to_string())
-    };
+    });
     written.map_err(|reason| Failure::File(format!("cannot write to standard output: {reason}")))
 }

@@ -42,8 +42,10 @@ impl Told {
         }
         let About { scheme, form, checked, date, label } = About::read(path)?;
         let name = named(path);
+        // The command line is in order, and the file may be what somebody has changed.
         if arguments.flag("--checked") && !checked {
-            return usage(format!("--checked is given, and by {name} the message was split without a check"));
+            let why = format!("--checked is given, and by {name} the message was split without a check");
+            return Err(Failure::File(why));
         }
         Ok(Told { scheme: scheme.said_by(&name), form, checked, about: Some(Origin { name, date, label }) })
     }

@@ -1,6 +1,6 @@
 //! The program `sharing`, run as its users run it, in a folder of its own.
 
-use folder::{Folder, FORMER_DEFAULT};
+use folder::{text, Folder, FORMER_DEFAULT};
 use gilunavoi::limits::{DEFAULT_N, DEFAULT_Z, MAX_MESSAGE};
 use gilunavoi::raw;
 use std::fs;
@@ -168,7 +168,7 @@ fn schemes() {
     let sheet = "N 7, R 4, Z 1, counts 7,4,3\n\
         A block has 6 bytes in 3 rows, and takes 3 key bytes.\n\
         1 party learns nothing of a message but its length in blocks, and any 3 open it.\n\
-        2 parties together learn part of it, and can confirm a guess of all of it, whatever the keys.\n\
+        2 parties together learn part of it, and can test a guess of all of it, whatever the keys: a wrong one hardly ever fits.\n\
         Where fewer than 3 shall learn nothing, which is Shamir's promise, take 7,4,2,7,4,3. Its price:\n\
         a share as long as the message, not half as long; 2 key bytes for a message byte, not 1/2;\n\
         1 2/5, 2 and 3 bytes to fetch for a message byte from 7, 4 and 3 parties, not 1 1/6, 1 1/3 and 1 1/2.\n\
@@ -495,6 +495,8 @@ fn help() {
     let all = folder.says("--help");
     assert_eq!(folder.says("-h"), all);
     assert_eq!(folder.says("--version"), format!("sharing {}\n", include_str!("../../../VERSION").trim_end()));
+    let said = folder.fails("--version x", 2);
+    assert!(said.starts_with("sharing: --version stands alone, and \"x\" was given after it\n"), "{said}");
     for name in ["scheme", "split", "prefix", "reconstruct"] {
         let one = folder.says(&format!("{name} --help"));
         assert_eq!(folder.says(&format!("{name} -h")), one);
@@ -504,6 +506,25 @@ fn help() {
     for said in [all, folder.says("split message --help")] {
         assert!(said.contains("never draws keys") && said.contains("one message only"), "{said}");
     }
+}
+
+/// The value of an option is one, whatever it looks like.
+#[test]
+fn values_that_look_like_help() {
+    let folder = Folder::new("help-values");
+    folder.write("message", 5);
+    folder.write("keys", 12);
+    for value in ["-h", "--help", "--"] {
+        folder.says(&format!("split --label {value} message keys shares"));
+        assert!(text(&folder.bytes("shares/about")).ends_with(&format!("\nlabel {value}\n")), "{value}");
+        folder.remove("shares");
+    }
+    let help = folder.says("split --help");
+    for line in ["split --label -h -h", "split --label=x -h", "split --checked -h", "split --label -- --help"] {
+        assert_eq!(folder.says(line), help, "{line}");
+    }
+    folder.says("split message keys -- --help");
+    assert!(folder.0.join("--help/share-5").exists());
 }
 
 #[test]

@@ -162,17 +162,21 @@ fn options_beside_it() {
         (format!("reconstruct --about shares/about --length 33 out{shares}"), length),
         (format!("rebuild --about shares/about --scheme 5,2,2,5,4,3 --party 4 out{shares}"), scheme),
         (format!("check --about absent --scheme 5,2,2,5,4,3{shares}"), scheme),
-        (
-            format!("reconstruct --about shares/about --checked out{shares}"),
-            "--checked is given, and by \"shares/about\" the message was split without a check\n",
-        ),
         (format!("check --about shares/about --about shares/about{shares}"), "--about stands twice\n"),
         ("split --about shares/about message keys more".to_string(), "there is no option \"--about\" here\n"),
     ] {
         assert!(folder.fails(&line, 2).starts_with(&format!("sharing: {words}")), "{line}");
     }
+    let without_check = |folder: &Folder, about: &str| {
+        let said = folder.fails(&format!("reconstruct --about {about} --checked out{shares}"), 1);
+        let why = format!("--checked is given, and by {about:?} the message was split without a check");
+        assert_eq!(said, format!("sharing: {why}\n"));
+    };
+    without_check(&folder, "shares/about");
     // The same twice is no contradiction.
     let folder = folder_with_letter("about-both", &["--checked"], 132);
+    folder.put("changed", text(&folder.bytes("shares/about")).replace("check sha256\n", "").as_bytes());
+    without_check(&folder, "changed");
     assert!(folder.says(&format!("reconstruct --about shares/about --checked out{shares}")).ends_with(FITS));
     let said = folder.fails(&format!("reconstruct --about shares/about --checked --first 3 more{shares}"), 2);
     assert!(said.contains("--checked is for a whole message"), "{said}");
@@ -216,6 +220,10 @@ fn lines_that_are_wrong() {
         (unpadded.replace("33", "16385"), "line 4 is \"length 16385\", and needed is a number up to 16384".to_string()),
         (unpadded.replace("33", "033"), "line 4 is \"length 033\", and needed is a number up to 16384".to_string()),
         (unpadded.replace("33", "-1"), "line 4 is \"length -1\", and needed is a number up to 16384".to_string()),
+        (
+            unpadded.replace("33", "31").replace("date", "check sha256\ndate"),
+            "line 5 tells of a check, which has 32 bytes, and the length before it is 31".to_string(),
+        ),
         (unpadded.replace("33", ""), "line 4 is \"length \", and needed is a number up to 16384".to_string()),
     ] {
         refused(&folder, about.as_bytes(), &why);

@@ -299,6 +299,17 @@ fn without_the_command() {
         folder.put_command(&format!("while read -r line; do :; done; echo '{answer}'"));
         all_fail("answered no digest\n");
     }
+    // An answer that does not depend on the input, be that read or not; what is not read may be noticed by that too.
+    for digest in [digits, "0".repeat(64)] {
+        folder.put_command(&format!("while read -r line; do :; done; echo {digest}"));
+        all_fail("answers another digest than SHA-256 for a known text\n");
+        folder.put_command(&format!("echo '{digest}  -'"));
+        for line in ["split --checked message keys more", "split --checked --pool pool message more"] {
+            let said = folder.fails_with_command(line);
+            let ends = ["answers another digest than SHA-256 for a known text\n", "did not read its input\n"];
+            assert!(ends.iter().any(|end| said.ends_with(&format!(": sha256sum {end}"))), "{said}");
+        }
+    }
     // Without --checked the command is not needed, and not run.
     folder.put_command("exit 3");
     let mut split = folder.command("split message keys more");
@@ -306,15 +317,31 @@ fn without_the_command() {
     assert!(split.env("PATH", folder.0.join("bin")).output().expect("it runs").status.success());
 }
 
-/// A command that writes much before it reads, with a message that fills no pipe and one that does: nobody waits for ever.
+/// A command that closes its input, with more in it than a pipe holds: what was not read has no digest.
+#[test]
+fn a_command_that_does_not_read() {
+    let folder = folder_with_letter("checked-unread", "");
+    folder.put_command(&after_the_known_text(&format!("echo {}; exec <&-", "0123456789abcdef".repeat(4))));
+    folder.write("message", 1 << 17);
+    let said = folder.fails_with_command("split --checked message keys more");
+    assert_eq!(said, "sharing: the check cannot be made: sha256sum did not read its input\n");
+}
+
+/// What a command does that answers the right digest when it is tried, which it is before each other run.
+fn after_the_known_text(script: &str) -> String {
+    let abc = "ba7816bf8f01cfea414140de5dae2223b00361a396177a9cb410ff61f20015ad";
+    format!("read -r text; [ \"$text\" != abc ] || {{ echo {abc}; exit; }}; {script}")
+}
+
+/// A command that writes much before it reads more than a line, with a message that fills no pipe and one that does: nobody waits for ever.
 #[test]
 fn a_command_that_writes_first() {
     let folder = folder_with_letter("checked-writes", "");
     let digits = "0123456789abcdef".repeat(4);
-    folder.put_command(&format!(
+    folder.put_command(&after_the_known_text(&format!(
         "echo '{digits}  -'; i=0; while [ $i -lt 3000 ]; do echo 'a line of more than 60 bytes, so that all of them fill a \
          pipe'; i=$((i + 1)); done; while read -r line; do :; done"
-    ));
+    )));
     for length in [33, LONGEST] {
         folder.write("message", length);
         folder.put("keys", &vec![7; ((length + CHECK) / 6 + 1) * 12]);
@@ -365,7 +392,13 @@ fn usage() {
     for command in ["", "split ", "reconstruct "] {
         assert!(folder.says(&format!("{command}--help")).contains(" [--checked]"), "{command}");
     }
+    assert!(folder.says("--help").contains("reconstruct [--about FILE | [--scheme S] [--length L]] [--checked] OUT "));
     let words = folder.says("reconstruct --help").replace('\n', " ");
+    assert!(
+        words.starts_with("sharing reconstruct [--about FILE | [--scheme N,R,Z,D1,D2..] [--length L]] [--checked] ")
+    );
+    assert!(words.contains("gives --checked beside --about"), "{words}");
     assert!(words.contains("head -c -32") && words.contains("The check is no signature"), "{words}");
     assert!(folder.says("split --help").contains("16352 bytes"));
+    assert!(folder.says("scheme --help").contains("for a letter of 33 bytes 65."));
 }

@@ -37,7 +37,7 @@ impl Trial {
         Trial { folder, stop: Stop::new(&format!("durable-{test}")) }
     }
 
-    fn lines() -> [String; 7] {
+    fn lines() -> [String; 8] {
         let one = |parties: &[usize], line: &str| format!("{line}{}", of(parties));
         [
             SPLIT.to_string(),
@@ -47,6 +47,7 @@ impl Trial {
             one(&[2, 3, 4], "rebuild --party 1 new"),
             "archive write new shares/share-1".to_string(),
             "archive entry archive 1 new".to_string(),
+            "scheme --picture new".to_string(),
         ]
     }
 
@@ -298,6 +299,33 @@ fn a_signal_at_the_start() {
         }
         assert!((2..9).contains(&ends), "{mode}: {ends}");
     }
+}
+
+/// A limit on the length of files, which the system tells by a signal of its own: what is too long fails, and nothing is
+/// left of what was written before. Of a pool the keys stay used, and are overwritten by the next run.
+#[test]
+fn files_that_may_not_be_so_long() {
+    let folder = Folder::new("too-large");
+    // A share has 1206 bytes then, and a block of the limit is 512 or 1024.
+    folder.write("message", 1200);
+    for name in ["keys", "drawn"] {
+        folder.write(name, 2412);
+    }
+    folder.says("pool new pool drawn");
+    let left = folder.names();
+    for (line, words) in [
+        ("split message keys new", "sharing: cannot write \"new/share-1\": File too large"),
+        ("pool new new keys", "sharing: cannot write \"new/keys\": File too large"),
+        ("prefix --readers 3 message - >out", "sharing: cannot write to standard output: File too large"),
+        ("split --pool pool message new", "Key bytes of the pool \"pool\": 2412 used all the same, 0 left\n"),
+    ] {
+        folder.shell_fails(&format!("ulimit -f 1; exec \"$0\" {line}"), words);
+        folder.remove("out");
+        assert_eq!(folder.names(), left, "{line}");
+    }
+    folder.write("none", 0);
+    folder.says("split --unpadded --pool pool none new");
+    assert_eq!(folder.bytes("pool/keys"), [0; 2412]);
 }
 
 /// Who starts the program can say that signals are to be ignored: then the run comes to its end.

@@ -79,13 +79,17 @@ fn in_a_row(scheme: &Scheme) -> String {
     numbers.iter().map(u8::to_string).collect::<Vec<_>>().join(",")
 }
 
-/// Pictures of schemes of all kinds: those with the most counts and the most rows are among them.
+/// Pictures of schemes of all kinds: those with the most counts and the most rows are among them, and one that is as high as
+/// any.
 #[test]
 fn pictures_of_all_kinds_of_schemes() {
     let folder = Folder::new("picture-kinds");
     let mut random = Random::new(1);
-    let most =
-        cases::accepted([(16, 10, 1, &[16, 15, 13, 11, 9, 8, 7, 6]), (16, 14, 1, &[16, 15, 13, 11, 9, 8, 7, 2])]);
+    let most = cases::accepted([
+        (16, 10, 1, &[16, 15, 13, 11, 9, 8, 7, 6]),
+        (16, 14, 1, &[16, 15, 13, 11, 9, 8, 7, 2]),
+        (12, 10, 1, &[11, 10, 9, 7, 6, 5, 4, 2]),
+    ]);
     let drawn = (0..100).map(|_| Scheme::drawn(&mut random, 840));
     for scheme in cases::schemes().into_iter().chain(most).chain(drawn) {
         is_a_picture(&picture(&folder, &in_a_row(&scheme)), &scheme);
@@ -96,7 +100,7 @@ fn pictures_of_all_kinds_of_schemes() {
 fn is_a_picture(picture: &str, scheme: &Scheme) {
     let elements = elements(picture);
     let (width, height) = (elements[0].number("width"), elements[0].number("height"));
-    assert!((800..1700).contains(&width) && height < 1900, "{scheme:?}: {width} and {height}");
+    assert!((800..1700).contains(&width) && height < 2100, "{scheme:?}: {width} and {height}");
     assert_eq!((elements[0].name, elements[0].attribute("role")), ("svg", "img"));
     assert_eq!(elements[1].text, format!("The scheme {}", in_a_row(scheme)));
     assert_eq!((elements[1].name, elements[2].name), ("title", "desc"));

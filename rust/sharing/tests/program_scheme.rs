@@ -37,26 +37,27 @@ fn who_learns_nothing_or_all() {
 fn who_learns_part() {
     let folder = Folder::new("scheme-ramp");
     let former = "1 party learns nothing of a message but its length in blocks, and any 3 open it.\n\
-        2 parties together learn part of it, and can confirm a guess of all of it, whatever the keys.\n\
+        2 parties together learn part of it, and can test a guess of all of it, whatever the keys: a wrong one hardly ever fits.\n\
         Where fewer than 3 shall learn nothing, which is Shamir's promise, take 5,2,2,5,4,3. Its price:\n\
         a share as long as the message, not half as long; 2 key bytes for a message byte, not 1/2;\n\
         1 2/3, 2 and 3 bytes to fetch for a message byte from 5, 4 and 3 parties, not 1 1/4, 1 1/3 and 1 1/2.\n";
     assert_eq!(ramp(&folder, "5,2,1,5,4,3"), former);
     let nine = "1 party learns nothing of a message but its length in blocks, and any 6 open it.\n\
-        2 to 5 parties together learn part of it, and already 2 can confirm a guess of all of it, whatever the keys.\n\
+        2 to 5 parties together learn part of it, and already 2 can test a guess of all of it, whatever the keys: a wrong one hardly ever fits.\n\
         Where fewer than 6 shall learn nothing, which is Shamir's promise, take 9,3,5,9,8,7,6. Its price:\n\
         a share as long as the message, not a fifth as long; 5 key bytes for a message byte, not 1/5;\n\
         2 1/4, 2 2/3, 3 1/2 and 6 bytes to fetch for a message byte from 9, 8, 7 and 6 parties, \
         not 1 1/8, 1 1/7, 1 1/6 and 1 1/5.\n";
     assert_eq!(ramp(&folder, "9,3,1,9,8,7,6"), nine);
-    // With Z 5 the first three counts, less it, are 11, 10 and 9, and only multiples of 990 are divided by all.
+    // With Z 5 the first three counts, less it, are 11, 10 and 9, and only multiples of 990 are divided by all. Without one
+    // of them it is a block of 110, 99 or 90 bytes; the first has the larger counts.
     let fewer_counts =
         "Up to 4 parties together learn nothing of a message but its length in blocks, and any 6 open it.\n\
-        5 parties together learn part of it, and can confirm a guess of all of it, whatever the keys.\n\
-        Where fewer than 6 shall learn nothing, which is Shamir's promise, take 16,10,5,6 \
+        5 parties together learn part of it, and can test a guess of all of it, whatever the keys: a wrong one hardly ever fits.\n\
+        Where fewer than 6 shall learn nothing, which is Shamir's promise, take 16,10,5,16,15,6 \
         (its block would be too long with the counts 16,15,14,6). Its price:\n\
         a share as long as the message, not half as long; 5 key bytes for a message byte, not 2;\n\
-        6 bytes to fetch for a message byte from 6 parties, \
+        1 5/11, 1 1/2 and 6 bytes to fetch for a message byte from 16, 15 and 6 parties, \
         not 1 1/3, 1 4/11, 1 2/5 and 3 from 16, 15, 14 and 6 parties.\n";
     assert_eq!(ramp(&folder, "16,10,4,16,15,14,6"), fewer_counts);
     assert!(
@@ -66,13 +67,22 @@ fn who_learns_part() {
     assert!(ramp(&folder, "7,0,4,7").contains("not a third as long; 6 key bytes for a message byte, not 1 1/3;"));
 }
 
-/// The scheme that is offered is accepted, and in it nobody learns only part.
+/// The scheme that is offered is accepted, has as many of the counts as it can, and in it nobody learns only part.
 #[test]
 fn the_scheme_that_is_offered() {
     let folder = Folder::new("scheme-offer");
-    for scheme in ["5,2,1,5,4,3", "7,4,1,7,4,3", "9,3,1,9,8,7,6", "16,10,4,16,15,14,6", "12,4,3,12,9,8", "16,0,1,16"] {
+    for (scheme, expected) in [
+        ("5,2,1,5,4,3", "5,2,2,5,4,3"),
+        ("7,4,1,7,4,3", "7,4,2,7,4,3"),
+        ("9,3,1,9,8,7,6", "9,3,5,9,8,7,6"),
+        ("11,8,1,11,9,7,6,3", "11,8,2,11,9,7,3"),
+        ("16,10,4,16,15,14,6", "16,10,5,16,15,6"),
+        ("12,4,3,12,9,8", "12,4,7,12,9,8"),
+        ("16,0,1,16", "16,0,15,16"),
+    ] {
         let said = ramp(&folder, scheme);
         let offered = said.split_once(" promise, take ").expect("an offer").1.split([' ', '.']).next().expect("a word");
+        assert_eq!(offered, expected, "{scheme}");
         assert!(
             ramp(&folder, offered).contains("\nNo number of parties learns only part of it: "),
             "{scheme}: {offered}"

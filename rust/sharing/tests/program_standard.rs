@@ -2,7 +2,7 @@
 
 use folder::{text, Folder};
 use shares_folder::{folder_with_shares, of};
-use std::fs;
+use std::fs::{self, OpenOptions};
 use std::io::Write;
 use std::process::{Output, Stdio};
 
@@ -54,12 +54,44 @@ fn splits() {
     let (message, keys) = (folder.bytes("message"), folder.bytes("keys"));
     for (line, input) in [("split - keys", &message), ("split message -", &keys)] {
         let said = says(&folder, &format!("{line} piped"), input);
-        assert!(said.starts_with("5 shares of 30 bytes are in \"piped\", share-1 to share-5.\n"), "{said}");
+        let told = "5 shares of 30 bytes are in \"piped\", share-1 to share-5.\nThe message has 25 bytes.\n";
+        assert!(said.starts_with(told), "{said}");
         for party in 1..=5 {
             assert_eq!(folder.bytes(&format!("piped/share-{party}")), folder.bytes(&format!("shares/share-{party}")));
         }
         folder.remove("piped");
     }
+}
+
+/// What a command that failed leaves is an empty message: it is split, and both the report and a note say so.
+#[test]
+fn an_empty_message() {
+    let folder = folder_with_shares("standard-empty");
+    folder.write("none", 0);
+    folder.write("pool-keys", 24);
+    folder.says("pool new pool pool-keys");
+    folder.write("keys", 12);
+    for (line, length, note) in [
+        ("split - keys", 6, "standard input has 0 bytes"),
+        ("split none keys", 6, "\"none\" has 0 bytes"),
+        ("split --pool pool -", 6, "standard input has 0 bytes"),
+        ("split --unpadded --pool pool none", 0, "\"none\" has 0 bytes"),
+    ] {
+        let output = fed(&folder, &format!("{line} piped"), b"");
+        let told =
+            format!("5 shares of {length} bytes are in \"piped\", share-1 to share-5.\nThe message has 0 bytes.\n");
+        assert!(text(&output.stdout).starts_with(&told), "{line}: {}", text(&output.stdout));
+        let aside = format!("sharing: the message is empty: {note}\n");
+        assert_eq!((output.status.code(), text(&output.stderr)), (Some(0), aside), "{line}");
+        folder.remove("piped");
+    }
+    // The check is not counted.
+    folder.write("keys", 72);
+    let said = text(&fed(&folder, "split --checked - keys piped", b"").stdout);
+    assert!(said.contains("\nThe message has 0 bytes.\n"), "{said}");
+    folder.remove("piped");
+    let said = says(&folder, "split --checked - keys piped", b"a");
+    assert!(said.contains("\nThe message has 1 byte.\n"), "{said}");
 }
 
 /// Keys that go from where they are drawn into a pool, and are in no file before.
@@ -189,9 +221,13 @@ fn usage() {
         let said = fails(&folder, line, b"input", 2);
         assert!(said.starts_with("sharing: - stands for standard input, which can be read once"), "{line}: {said}");
     }
-    for (line, name) in
-        [("split message keys -", "FOLDER"), ("split --pool pool message -", "FOLDER"), ("pool new - keys", "POOL")]
-    {
+    for (line, name) in [
+        ("split message keys -", "FOLDER"),
+        ("split --pool pool message -", "FOLDER"),
+        ("split --pool - message shares", "POOL"),
+        ("pool new - keys", "POOL"),
+        ("pool status -", "POOL"),
+    ] {
         let said = fails(&folder, line, b"", 2);
         assert!(said.starts_with(&format!("sharing: {name} cannot be -: it is a folder")), "{line}: {said}");
     }
@@ -228,6 +264,8 @@ fn closed_and_full() {
         folder.shell_fails(&format!("exec \"$0\" {line} >/dev/full"), "sharing: cannot write to standard output: ");
         let closed = "sharing: cannot write to standard output: it is closed\n";
         folder.shell_fails(&format!("exec \"$0\" {line} >&-"), closed);
+        let other = "sharing: cannot write to standard output: it is not open for writing\n";
+        folder.shell_fails(&format!("exec \"$0\" {line} 1</dev/null"), other);
         // The reader is gone before anything is written.
         let (reader, writer) = std::io::pipe().expect("a pipe");
         drop(reader);
@@ -238,8 +276,30 @@ fn closed_and_full() {
     for line in ["split - keys piped", "split --unpadded message - piped", "prefix --readers 3 - -", "pool new pool -"]
     {
         folder.shell_fails(&format!("exec \"$0\" {line} <&-"), "sharing: cannot read standard input: it is closed\n");
+        let other = "sharing: cannot read standard input: it is not open for reading\n";
+        folder.shell_fails(&format!("exec \"$0\" {line} 0>/dev/null"), other);
     }
     assert_eq!(folder.names(), left);
+}
+
+/// A report that arrives nowhere is no report: nothing is kept. What is open in both directions serves as both.
+#[test]
+fn directions() {
+    let folder = folder_with_shares("standard-directions");
+    let left = folder.names();
+    for line in ["split message keys more", "pool new pool keys", "prefix --readers 3 shares/share-1 out", "scheme"] {
+        let other = "sharing: cannot write to standard output: it is not open for writing\n";
+        folder.shell_fails(&format!("exec \"$0\" {line} 1</dev/null"), other);
+    }
+    assert_eq!(folder.names(), left);
+    let both = |name: &str| {
+        let mut how = OpenOptions::new();
+        how.read(true).write(true).create(true).truncate(false).open(folder.0.join(name)).expect("a file")
+    };
+    let mut run = folder.command("prefix --readers 4 - -");
+    let status = run.stdin(both("shares/share-2")).stdout(both("out")).status().expect("it runs");
+    assert!(status.success());
+    assert_eq!(folder.bytes("out"), folder.bytes("shares/share-2")[..15]);
 }
 
 #[test]

@@ -39,12 +39,20 @@ impl Folder {
         self.command(line).output().expect("the program runs")
     }
 
-    /// What it says where it succeeds.
+    /// What it says where it succeeds. Aside it says nothing, but of an empty message that it is one.
     pub fn says(&self, line: &str) -> String {
         let output = self.run(line);
-        assert_eq!(text(&output.stderr), "", "{line}");
+        let (said, aside) = (text(&output.stdout), text(&output.stderr));
+        if said.contains("\nThe message has 0 bytes.\n") {
+            assert!(
+                aside.starts_with("sharing: the message is empty: ") && aside.lines().count() == 1,
+                "{line}: {aside}"
+            );
+        } else {
+            assert_eq!(aside, "", "{line}");
+        }
         assert_eq!(output.status.code(), Some(0), "{line}");
-        text(&output.stdout)
+        said
     }
 
     /// What it says where it fails, and that it leaves the folder as it was.
