@@ -2,6 +2,8 @@
 // count, for each entry a pair of its offset and its length, and the entries end to end. All numbers have two bytes, the
 // low byte first; offsets count from the file's start. specs/Format.antt has its bytes, and specs/Archives.antt what is
 // proved of reading and writing them.
+#![tactic(auto)]
+
 mod numbers;
 mod pairs;
 mod reading;

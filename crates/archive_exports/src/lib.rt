@@ -1,5 +1,7 @@
 // The C boundary of the archive, a static library of its own beside that of `exports`. A slice is a pointer and a length; an
 // answer is a struct whose `refusal` is 0 when the call is accepted.
+#![tactic(auto)]
+
 ghost use Rattle.std.specs.Prelude.{◌≡◌};
 ghost use Rattle.scheme.specs.Outcome.{outcome};
 ghost use Rattle.exports.specs.Fields.{answer_fields, value_fields};

@@ -1,5 +1,7 @@
 // Writes an archive, reads its entries back out of the middle of the file and prints them, for comparison with a stored
 // text. Then it damages the file.
+#![tactic(auto)]
+
 use libc::STDOUT_FILENO;
 use sharing::Answer;
 

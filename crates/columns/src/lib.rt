@@ -1,4 +1,6 @@
 // 64 blocks side by side: column e holds the coefficient of degree e of one row in each of them.
+#![tactic(auto)]
+
 ghost use Rattle.std.specs.Prelude.{◌≡◌, ℕ, ◌+◌, ◌*◌, ◌≤◌, ◌<◌, min, length};
 ghost use Rattle.lists.specs.Table.{tabulate};
 ghost use Rattle.gf256.specs.Lanes.{lanes};

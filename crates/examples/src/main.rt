@@ -1,6 +1,8 @@
 // Runs the examples of document 01 through the public functions, and prints a line for each, with a star or
 // without; and what document 02 says of the inverse of 0 (g) and of some schemes (d). The file `stdout` is written from the
 // documents.
+#![tactic(auto)]
+
 mod lengths;
 mod openings;
 mod printing;

@@ -2,6 +2,8 @@
 // the call is accepted. Those on padded messages stand in `padded`, those on a pool of keys in `pool`, the opener for
 // a range in `range`, the rebuilding of a share in `rebuild`, the check with the number tried in `tried`, the lengths of a
 // message in `message_lengths`.
+#![tactic(auto)]
+
 ghost use Rattle.std.specs.Prelude.{◌≡◌, length};
 ghost use Rattle.gf256.specs.Byte.{◌⊕◌, ◌⊗◌, inverse};
 ghost use Rattle.scheme.specs.Limits.{default_n, default_r, default_z, default_counts};

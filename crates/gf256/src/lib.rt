@@ -1,4 +1,6 @@
 // Byte arithmetic, FIPS 197 section 4. Each function is held to a definition of specs/Byte.antt.
+#![tactic(auto)]
+
 ghost use Rattle.std.specs.Prelude.{◌≡◌, ◌<◌};
 ghost use Rattle.gf256.specs.Byte as byte;
 ghost use Rattle.gf256.specs.Byte.{◌⊕◌, ◌⊗◌, power};

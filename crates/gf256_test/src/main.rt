@@ -1,4 +1,6 @@
 // Runs byte arithmetic and writes what it makes. The file `stdout` has what another implementation makes.
+#![tactic(auto)]
+
 mod counts;
 mod substitution;
 

@@ -1,4 +1,6 @@
 // Interpolation over bytes: the running value of a row, the Lagrange basis, and the weights of an opening.
+#![tactic(auto)]
+
 ghost use Rattle.std.specs.Prelude.{◌≡◌, true, ℕ, ◌+◌, ◌<◌, ◌≤◌, length, get_or, drop};
 ghost use Rattle.lists.specs.Each as each;
 ghost use Rattle.lists.specs.Table.{tabulate};

@@ -2,6 +2,8 @@
 // from it. The record of a pool says how many of its bytes are used. It is lent by `&mut` and moves with each split that is
 // accepted: a function that is given the record by value does the work (`drawing`), and one thin function stores what that
 // came to (`taking`).
+#![tactic(auto)]
+
 ghost use Rattle.staircase.specs.Parameters.{parameters, default_parameters};
 ghost use Rattle.key_pool.specs.declared.Form.TheVariants.{Earlier, Padded};
 ghost use Rattle.key_pool.specs.Pool.{PoolSplitCall};

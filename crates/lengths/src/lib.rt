@@ -1,4 +1,6 @@
 // The lengths that a message of so many bytes asks for, in both forms: nobody who splits or opens one has to work them out.
+#![tactic(auto)]
+
 ghost use Rattle.std.specs.Prelude.{◌≡◌, [], ◌∷◌, ◌*◌, ◌≤◌, ◌<◌};
 ghost use Rattle.scheme.specs.Limits.{max_block, max_message, max_blocks};
 ghost use Rattle.scheme.specs.Outcome.{scheme_outcome};

@@ -1,4 +1,6 @@
 // Definitions and laws on lists, for every crate: see specs/ and proofs/. The code here is on numbers alone.
+#![tactic(auto)]
+
 ghost use Rattle.std.specs.Prelude.{◌≡◌, min};
 
 // A byte, as the number that places and lengths are counted in.

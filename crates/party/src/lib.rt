@@ -1,5 +1,7 @@
 // A party's side (document 01's front): of its share, the prefix that it sends where d parties are
 // read.
+#![tactic(auto)]
+
 ghost use Rattle.std.specs.Prelude.{◌≡◌, length};
 ghost use Rattle.scheme.specs.Outcome.{outcome};
 ghost use Rattle.staircase.specs.Parameters.{parameters, default_parameters};

@@ -1,6 +1,8 @@
 // What the rows of a block are made of: a row's group and the number of its coefficients, where each of
 // them comes from, and the points at which the parties have the rows' values. The public functions take any
 // numbers, and have an answer for those that no scheme has too; nobody uses it.
+#![tactic(auto)]
+
 ghost use Rattle.std.specs.Prelude.{◌≡◌, ltb, get_or};
 ghost use Rattle.scheme.specs.Check.{rows_of_count};
 ghost use Rattle.staircase.specs.Parameters.{Parameters, point};

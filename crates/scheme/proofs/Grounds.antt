@@ -107,17 +107,20 @@ line r rest = line_then r (λ _. rest)
 
 -- no two numbers are the first, and none is where no ground applies
 pub first-once : (grounds : List Ground) (q k : ℕ) → FirstApplies q grounds → FirstApplies k grounds → q ≡ k
+first-once [] q k e f = elim e [ ]
 first-once (g ∷ grounds) q k (inl a) (inl b) = a.1 ∙ sym b.1
 first-once (g ∷ grounds) q k (inl a) (inr n) = absurd (n.0 a.0)
 first-once (g ∷ grounds) q k (inr n) (inl b) = absurd (n.0 b.0)
 first-once (g ∷ grounds) q k (inr n) (inr m) = first-once grounds q k n.1 m.1
 
 pub none_first : (grounds : List Ground) (q : ℕ) → NoneApplies grounds → FirstApplies q grounds → ⊥
+none_first [] q n e = elim e [ ]
 none_first (g ∷ grounds) q n (inl a) = n.0 a.0
 none_first (g ∷ grounds) q n (inr f) = none_first grounds q n.1 f.1
 
 -- nor is a number that no ground has
 pub first_other : (q : ℕ) (grounds : List Ground) → Each (λ g. eqb q g.number ≡ false) grounds → FirstApplies q grounds → ⊥
+first_other q [] n e = elim e [ ]
 first_other q (g ∷ grounds) n (inl a) = eqb-false q g.number n.0 a.1
 first_other q (g ∷ grounds) n (inr f) = first_other q grounds n.1 f.1
 
@@ -162,6 +165,7 @@ module _ {qs : List ℕ} {grounds : List Ground} (tested : Tested qs grounds) wh
 -- ---- the scheme's refusal in front of a call's own
 
 pub first-before : (grounds more : List Ground) (q : ℕ) → FirstApplies q grounds → FirstApplies q (grounds ++ more)
+first-before [] more q e = elim e [ ]
 first-before (g ∷ grounds) more q (inl a) = inl a
 first-before (g ∷ grounds) more q (inr f) = inr (f.0, first-before grounds more q f.1)
 

@@ -1,5 +1,7 @@
 // The scheme (document 01's plan): n parties, of which r may be absent and z may collude, and the
 // counts of parties from which a message is reconstructed.
+#![tactic(auto)]
+
 ghost use Rattle.std.specs.Prelude.{◌≡◌, ◌<◌};
 ghost use Rattle.scheme.specs.Limits.{default_n, default_r, default_z, default_counts};
 ghost use Rattle.scheme.specs.Outcome.{scheme_outcome};

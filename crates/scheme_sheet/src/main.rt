@@ -1,5 +1,7 @@
 // Prints the scheme sheet (document 01's plan sheet) for the scheme on standard input: n, r, z and the
 // counts, a byte each, at most 12 bytes in all.
+#![tactic(auto)]
+
 use libc::{STDIN_FILENO, STDOUT_FILENO};
 
 fn main() {

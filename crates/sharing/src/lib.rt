@@ -4,6 +4,8 @@
 // (`party`), and the readers find their Lagrange basis and the message again (`reader`), or only a range of it, or the share
 // of a party that lost it. How long all of these are is asked beforehand (`lengths`). The calls on a message that shows its
 // own end, by its padding, have `padded` in their names.
+#![tactic(auto)]
+
 pub use dealer::{split, split_default, split_padded, split_padded_default};
 pub use key_pool::{
     KeyPool, split_from_pool, split_from_pool_default, split_padded_from_pool,

@@ -1,5 +1,7 @@
 // Splits messages, hands out prefixes, makes bases, opens messages and ranges of them and asks for their lengths, and prints
 // what comes back, for comparison with values that were computed by other means.
+#![tactic(auto)]
+
 mod asked;
 mod bases;
 mod former;

@@ -1,5 +1,7 @@
 // The scheme sheet (document 01's plan sheet): a scheme's block length, its rows, and what each count
 // reads, as a text of lines.
+#![tactic(auto)]
+
 ghost use Rattle.std.specs.Prelude.{◌≡◌, ◌≤◌, get_or, take, drop};
 ghost use Rattle.scheme.specs.Limits.{max_block};
 ghost use Rattle.sheet.specs.Sheet.{count_line, count_lines, scheme_text, sheet_text, max_input};

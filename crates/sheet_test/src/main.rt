@@ -1,5 +1,7 @@
 // Prints the sheets of inputs whose texts are known: the document's example, the default scheme, each
 // refusal, inputs of 0 to 13 bytes, and the limits.
+#![tactic(auto)]
+
 use libc::STDOUT_FILENO;
 
 fn main() {

@@ -17,6 +17,6 @@ doubled : (x : ℕ) → x < 256 → twice x ≡ x ⊗ 2
 unfolding ◌⊗◌ product reduce ◌⊕◌ cut
 doubled x h = eqb→eq (twice x) (x ⊗ 2) (holds 256 (λ x. eqb (twice x) (x ⊗ 2)) tt x h)
 
-pub double-spec : {M : Type 1} → statement M
+pub double_spec : {M : Type 1} → statement M
 unfolding ◌⊕◌
-double-spec = tie.close (tie.spec (λ c. search rules) (λ c. search rules) (λ c. doubled c.args.x (search rules)))
+double_spec = tie.close (tie.spec (λ c. search rules) (λ c. search rules) (λ c. doubled c.args.x (search rules)))

@@ -9,14 +9,14 @@ use Rattle.gf256.proofs.Powers.{power-add}
 use Rattle.gf256.proofs.mul.Statement.{statement}
 use Rattle.gf256.proofs.mul.Tie as tie
 
-pub mul-spec : {M : Type 1} → statement M
-mul-spec =
+pub mul_spec : {M : Type 1} → statement M
+mul_spec =
     tie.close
     (tie.spec
-    (λ c. sym (ap (λ x. x ⊗ c.before.args.b) c.if1.true ∙ zero-⊗ c.before.args.b))
-    (λ c. sym (ap (◌⊗◌ c.before.before.args.a) c.if2.true ∙ ⊗-zero c.before.before.args.a))
+    (λ c. sym (ap (λ x. x ⊗ c.before.args.b) c.if-a-eq0.true ∙ zero-⊗ c.before.args.b))
+    (λ c. sym (ap (◌⊗◌ c.before.before.args.a) c.if-b-eq0.true ∙ ⊗-zero c.before.before.args.a))
     (λ c κs. search rules)
     (λ c κs. search rules)
     (λ c. search rules)
     (λ c κs. search rules)
-    (λ c. c.power-of-three.ensures ∙ power-add 3 c.before.before.logarithm.result c.before.logarithm2.result ∙ ap₂ ◌⊗◌ (c.before.before.logarithm.ensures.1 (omega arith)) (c.before.logarithm2.ensures.1 (omega arith))))
+    (λ c. c.power_of_three.ensures ∙ power-add 3 c.before.before.logarithm.result c.before.logarithm-2.result ∙ ap₂ ◌⊗◌ (c.before.before.logarithm.ensures.1 (omega arith)) (c.before.logarithm-2.ensures.1 (omega arith))))

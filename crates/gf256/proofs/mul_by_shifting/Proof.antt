@@ -11,25 +11,25 @@ use Rattle.gf256.proofs.Shifting.{odd, even, turn, done}
 use Rattle.gf256.proofs.mul_by_shifting.Statement.{statement}
 use Rattle.gf256.proofs.mul_by_shifting.Tie as tie
 
-abbrev invariant-loop : tie.invariant-loop
-invariant-loop a b sum₀ x₀ left₀ sum x left = (sum ⊕ x ⊗ left ≡ a ⊗ b) × (x < 256)
+abbrev invariant-loop-left : tie.invariant-loop-left
+invariant-loop-left a b sum₀ x₀ left₀ sum x left = (sum ⊕ x ⊗ left ≡ a ⊗ b) × (x < 256)
 
-abbrev decreases-loop : tie.decreases-loop
-decreases-loop a b sum₀ x₀ left₀ sum x left = left
+abbrev decreases-loop-left : tie.decreases-loop-left
+decreases-loop-left a b sum₀ x₀ left₀ sum x left = left
 
-pub mul-by-shifting-spec : {M : Type 1} → statement M
+pub mul_by_shifting_spec : {M : Type 1} → statement M
 unfolding ◌⊕◌
-mul-by-shifting-spec =
+mul_by_shifting_spec =
     tie.close
-    (tie.spec invariant-loop decreases-loop
+    (tie.spec invariant-loop-left decreases-loop-left
     (λ c. (refl, search rules))
     (λ c κs. search rules)
     (λ c. omega arith)
     (λ c.
-    let l = c.before.before.before.loop in (
-      turn l.sum l.x l.left l.invariant.1 c.double.ensures
-          (⊎_elim (λ w. odd l.sum l.x l.left w.0.taken w.1) (λ w. even l.sum l.x l.left w.0.left w.1) c.before.if1.branch)
+    let l = c.before.before.before.loop-left in (
+      turn l.sum l.x l.left l.invariant.1 c.double-x.ensures
+          (⊎_elim (λ w. odd l.sum l.x l.left w.if-left-eq1.true w.sum-is) (λ w. even l.sum l.x l.left w.if-left-eq1.false w.sum-is) c.before.if-left-eq1.branch-raw)
           l.invariant.0,
-      subst (λ r. r < 256) (sym c.double.ensures) (⊗-byte l.x 2),
+      subst (λ r. r < 256) (sym c.double-x.ensures) (⊗-byte l.x 2),
     ))
-    (λ c. done _ _ _ c.loop-test.false c.before.loop.invariant.0))
+    (λ c. done _ _ _ c.loop-left-test.false c.before.loop-left.invariant.0))

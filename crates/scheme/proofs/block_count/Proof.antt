@@ -10,22 +10,22 @@ use borrow.Author.Rules.{rules}
 use Rattle.scheme.proofs.block_count.Statement.{statement}
 use Rattle.scheme.proofs.block_count.Tie as tie
 
-pub block-count-spec : {M : Type 1} → statement M
+pub block_count_spec : {M : Type 1} → statement M
 unfolding block_count
-block-count-spec =
+block_count_spec =
     tie.close
     (tie.spec
     (λ c.
     let a = c.before.args in
-    sym (ap (λ (x : ℕ). (a.bytes + (x - 1)) / x) c.if1.true ∙ div-zero _))
+    sym (ap (λ (x : ℕ). (a.bytes + (x - 1)) / x) c.if-block-eq0.true ∙ div-zero _))
     (λ c. search rules)
     (λ c. search rules)
     (λ c.
     let a = c.before.before.args in
-    sym (round_up_whole a.bytes a.block (omega arith) c.if2.true))
+    sym (round_up_whole a.bytes a.block (omega arith) c.if-bytes-block-eq0.true))
     (λ c.
     let a = c.before.before.args in
-    omega (arith, part_below a.bytes a.block (omega arith) c.if2.false))
+    omega (arith, part_below a.bytes a.block (omega arith) c.if-bytes-block-eq0.false))
     (λ c.
     let a = c.before.before.args in
-    sym (round_up_part a.bytes a.block (omega arith) c.if2.false)))
+    sym (round_up_part a.bytes a.block (omega arith) c.if-bytes-block-eq0.false)))

@@ -7,12 +7,12 @@ use Rattle.scheme.proofs.Tried.{check-told}
 use Rattle.scheme.proofs.check.Statement.{statement}
 use Rattle.scheme.proofs.check.Tie as tie
 
-pub check-spec : {M : Type 1} → statement M
-check-spec =
+pub check_spec : {M : Type 1} → statement M
+check_spec =
     tie.close
     (tie.spec
     (λ c κs. search rules)
     (λ c κs. search rules)
     (λ c.
-    let told = c.before.check-tried in
-    ap scheme_outcome c.without-tried.ensures ∙ check-told _ _ _ _ told.result told.ensures))
+    let told = c.before.check_tried in
+    ap scheme_outcome c.without_tried.ensures ∙ check-told _ _ _ _ told.result told.ensures))

@@ -7,12 +7,12 @@ use Rattle.scheme.proofs.Tried.{check-told}
 use Rattle.scheme.proofs.check_default.Statement.{statement}
 use Rattle.scheme.proofs.check_default.Tie as tie
 
-pub check-default-spec : {M : Type 1} → statement M
-check-default-spec =
+pub check_default_spec : {M : Type 1} → statement M
+check_default_spec =
     tie.close
     (tie.spec
     (λ c κs. search rules)
     (λ c κs. search rules)
     (λ c.
-    let told = c.before.check-tried-default in
-    ap scheme_outcome c.without-tried.ensures ∙ check-told _ _ _ _ told.result told.ensures))
+    let told = c.before.check_tried_default in
+    ap scheme_outcome c.without_tried.ensures ∙ check-told _ _ _ _ told.result told.ensures))

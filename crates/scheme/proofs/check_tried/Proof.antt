@@ -10,8 +10,8 @@ use borrow.Author.Rules.{rules}
 use Rattle.scheme.proofs.check_tried.Statement.{statement}
 use Rattle.scheme.proofs.check_tried.Tie as tie
 
-pub check-tried-spec : {M : Type 1} → statement M
-check-tried-spec =
+pub check_tried_spec : {M : Type 1} → statement M
+check_tried_spec =
     tie.close
     (tie.spec
     (λ c. tried_none _ _ _ _ (omega arith) (omega arith) (few_parties _ _ _ _ (omega arith)))
@@ -24,34 +24,34 @@ check-tried-spec =
     (λ c. tried_none _ _ _ _ (omega arith) (omega arith) (no_room _ _ _ _ (omega arith) (omega arith) (omega arith)))
     (λ c κs. search rules)
     (λ c.
-    let bad = counts_bad _ _ _ _ (search rules) (sym c.before.counts-refused.ensures ∙ c.if5.true) in
+    let bad = counts_bad _ _ _ _ (search rules) (sym c.counts_refused.ensures ∙ c.if-counts_refused.true) in
     tried_none _ _ _ _ (omega arith) (omega arith) bad)
     (λ c. search rules)
     (λ c.
-    let fit = counts_fit _ _ _ (sym c.before.before.counts-refused.ensures ∙ c.before.if5.false) in
+    let fit = counts_fit _ _ _ (sym c.counts_refused.ensures ∙ c.if-counts_refused.false) in
     omega (arith, fit.some))
     (λ c κs. search rules)
     (λ c κs. search rules)
     (λ c.
-    let e = c.before.before.before in
-    let fit = counts_fit _ _ _ (sym e.before.counts-refused.ensures ∙ e.if5.false) in
+    let e = c in
+    let fit = counts_fit _ _ _ (sym e.counts_refused.ensures ∙ e.if-counts_refused.false) in
     omega (arith, fit_low _ _ _ fit 0 fit.some))
     (λ c κs.
-    let e = c.before.before.before in
-    let fit = counts_fit _ _ _ (sym e.before.counts-refused.ensures ∙ e.if5.false) in
+    let e = c in
+    let fit = counts_fit _ _ _ (sym e.counts_refused.ensures ∙ e.if-counts_refused.false) in
     (fit.some, omega arith, λ k h. omega (arith, fit_low _ _ _ fit k h)))
     (λ c. search rules)
     (λ c. search rules)
     (λ c. search rules)
     (λ c.
-    let b = c.before.before.before in
-    let e = b.before.before.before.before in
-    let stood = sym e.before.counts-refused.ensures ∙ e.if5.false in
-    let found = rw c.before.block.given.1 at b.block-length.ensures in
+    let b = c in
+    let e = c in
+    let stood = sym e.counts_refused.ensures ∙ e.if-counts_refused.false in
+    let found = rw c.in-Found.is at b.block_length.ensures in
     tried-found _ _ _ _ found.0 found.2 (all-passed _ _ _ _ (search rules) stood _ _ found.0 (omega arith) found.1))
     (λ c.
-    let b = c.before.before.before in
-    let e = b.before.before.before.before in
-    let stood = sym e.before.counts-refused.ensures ∙ e.if5.false in
-    let past = rw c.before.tried.given.1 at b.block-length.ensures in
+    let b = c in
+    let e = c in
+    let stood = sym e.counts_refused.ensures ∙ e.if-counts_refused.false in
+    let past = rw c.in-PastLimit.is at b.block_length.ensures in
     tried_past _ _ _ _ past.1 (block_long _ _ _ _ (search rules) stood past.0)))

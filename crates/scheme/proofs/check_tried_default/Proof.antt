@@ -4,5 +4,5 @@ use borrow.Author.Rules.{rules}
 use Rattle.scheme.proofs.check_tried_default.Statement.{statement}
 use Rattle.scheme.proofs.check_tried_default.Tie as tie
 
-pub check-tried-default-spec : {M : Type 1} → statement M
-check-tried-default-spec = tie.close (tie.spec (λ c. search rules) (λ c κs. search rules) (λ c. c.check-tried.ensures))
+pub check_tried_default_spec : {M : Type 1} → statement M
+check_tried_default_spec = tie.close (tie.spec (λ c. search rules) (λ c κs. search rules) (λ c. c.check_tried.ensures))

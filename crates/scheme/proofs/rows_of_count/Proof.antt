@@ -9,9 +9,9 @@ use borrow.Author.Rules.{rules}
 use Rattle.scheme.proofs.rows_of_count.Statement.{statement}
 use Rattle.scheme.proofs.rows_of_count.Tie as tie
 
-pub rows-of-count-spec : {M : Type 1} → statement M
+pub rows_of_count_spec : {M : Type 1} → statement M
 unfolding rows_of_count
-rows-of-count-spec =
+rows_of_count_spec =
     tie.close
     (tie.spec
     (λ c κs. search rules)
@@ -23,4 +23,4 @@ rows-of-count-spec =
     (λ c. search rules)
     (λ c.
     let w = c.before in
-    ap (λ (x : ℕ). w.before.args.block / (w.before.args.d - x)) w.wide.ensures))
+    ap (λ (x : ℕ). w.before.args.block / (w.before.args.d - x)) w.wide-low.ensures))

@@ -11,22 +11,22 @@ use Rattle.gf256.proofs.Laws.{⊗_comm}
 use Rattle.gf256.proofs.lanes.double_each.Statement.{statement}
 use Rattle.gf256.proofs.lanes.double_each.Tie as tie
 
-abbrev invariant-loop : tie.invariant-loop
-invariant-loop x r₀ i₀ r i = Fill (λ k. 2 ⊗ get_or x k 0) lanes i r
+abbrev invariant-loop-i : tie.invariant-loop-i
+invariant-loop-i x r₀ i₀ r i = Fill (λ k. 2 ⊗ get_or x k 0) lanes i r
 
-abbrev decreases-loop : tie.decreases-loop
-decreases-loop x r₀ i₀ r i = lanes - i
+abbrev decreases-loop-i : tie.decreases-loop-i
+decreases-loop-i x r₀ i₀ r i = lanes - i
 
-pub double-each-spec : {M : Type 1} → statement M
+pub double_each_spec : {M : Type 1} → statement M
 unfolding scaled
-double-each-spec =
+double_each_spec =
     tie.close
-    (tie.spec invariant-loop decreases-loop
+    (tie.spec invariant-loop-i decreases-loop-i
     (λ c. fill_none _ lanes _ refl)
     (λ c. search rules)
     (λ c κs. search rules)
     (λ c. search rules)
     (λ c. search rules)
     (λ c. search rules)
-    (λ c. fill_more c.before.before.loop.invariant c.before.loop-test.true (c.double.ensures ∙ ⊗_comm _ 2))
-    (λ c. fill-all c.before.loop.invariant c.loop-test.false))
+    (λ c. fill_more c.before.before.loop-i.invariant c.before.loop-i-test.true (c.double.ensures ∙ ⊗_comm _ 2))
+    (λ c. fill-all c.before.loop-i.invariant c.loop-i-test.false))

@@ -15,29 +15,29 @@ use Rattle.gf256.proofs.Shifting.{doubling, doubled}
 use Rattle.gf256.proofs.lanes.scale_each.Statement.{statement}
 use Rattle.gf256.proofs.lanes.scale_each.Tie as tie
 
-abbrev invariant-loop : tie.invariant-loop
-invariant-loop by p₀ left₀ p left =
+abbrev invariant-loop-left : tie.invariant-loop-left
+invariant-loop-left by p₀ left₀ p left =
     (0 < left) × ((i : ℕ) → i < lanes → (get_or p i 0 < 256) × (get_or p i 0 ⊗ left ≡ get_or p₀ i 0 ⊗ by))
 
-abbrev decreases-loop : tie.decreases-loop
-decreases-loop by p₀ left₀ p left = left
+abbrev decreases-loop-left : tie.decreases-loop-left
+decreases-loop-left by p₀ left₀ p left = left
 
-pub scale-each-spec : {M : Type 1} → statement M
+pub scale_each_spec : {M : Type 1} → statement M
 unfolding scaled
-scale-each-spec =
+scale_each_spec =
     tie.close
-    (tie.spec invariant-loop decreases-loop
+    (tie.spec invariant-loop-left decreases-loop-left
     (λ c. tabulate_is _ lanes _ 0 (length-replicate {A = ℕ} lanes 0)
-    (λ i h. get_or-replicate {A = ℕ} lanes i 0 0 h ∙ sym (ap (λ b. b ⊗ get_or c.before.args.x i 0) c.if1.true ∙ zero-⊗ _)))
-    (λ c. (omega arith, λ i h. (array_byte lanes c.before.args.x _ c.before.well-formed.0 i, refl)))
+    (λ i h. get_or-replicate {A = ℕ} lanes i 0 0 h ∙ sym (ap (λ b. b ⊗ get_or c.before.args.x i 0) c.if-by-eq0.true ∙ zero-⊗ _)))
+    (λ c. (omega arith, λ i h. (array_byte lanes c.before.args.x _ c.before.well_formed.0 i, refl)))
     (λ c κs. search rules)
     (λ c. omega arith)
     (λ c.
-    let l = c.before.before.loop in
-    let twice = doubled l.p c.double-each.result c.double-each.ensures in
-    (omega arith, λ i h. (rw (twice i h) (⊗-byte (get_or l.p i 0) 2), doubling _ l.left (l.invariant.1 i h).0 (twice i h) c.before.loop-test.true (l.invariant.1 i h).1)))
+    let l = c.before.before.loop-left in
+    let twice = doubled l.p c.double_each-q.result c.double_each-q.ensures in
+    (omega arith, λ i h. (rw (twice i h) (⊗-byte (get_or l.p i 0) 2), doubling _ l.left (l.invariant.1 i h).0 (twice i h) c.before.loop-left-test.true (l.invariant.1 i h).1)))
     (λ c κs. search rules)
     (λ c.
-    let l = c.before.before.loop in
+    let l = c.before.before.loop-left in
     let s = c.before.before.before.before in
-    c.scale-odd.ensures ∙ tabulate-same lanes _ _ (λ i h. ⊗_comm l.left (get_or l.p i 0) ∙ (l.invariant.1 i h).1 ∙ ⊗_comm (get_or s.args.x i 0) s.args.by)))
+    c.scale_odd.ensures ∙ tabulate-same lanes _ _ (λ i h. ⊗_comm l.left (get_or l.p i 0) ∙ (l.invariant.1 i h).1 ∙ ⊗_comm (get_or s.args.x i 0) s.args.by)))

@@ -17,12 +17,12 @@ use Rattle.gf256.proofs.Shifting.{odd, even, turn, starting, done, doubled}
 use Rattle.gf256.proofs.lanes.scale_odd.Statement.{statement}
 use Rattle.gf256.proofs.lanes.scale_odd.Tie as tie
 
-abbrev invariant-loop : tie.invariant-loop
-invariant-loop by sum₀ p₀ left₀ sum p left =
+abbrev invariant-loop-left : tie.invariant-loop-left
+invariant-loop-left by sum₀ p₀ left₀ sum p left =
     (length sum ≡ lanes) × ((i : ℕ) → i < lanes → get_or sum i 0 ⊕ (get_or p i 0 ⊗ 2) ⊗ left ≡ get_or p₀ i 0 ⊗ by)
 
-abbrev decreases-loop : tie.decreases-loop
-decreases-loop by sum₀ p₀ left₀ sum p left = left
+abbrev decreases-loop-left : tie.decreases-loop-left
+decreases-loop-left by sum₀ p₀ left₀ sum p left = left
 
 -- t is the sum after the lowest digit of n
 record Added (s p t : List ℕ) (n : ℕ) : Type 0 where
@@ -41,27 +41,27 @@ is_even : (s p : List ℕ) {t : List ℕ} {n : ℕ} → length s ≡ lanes → (
 is_even s p {t} {n} h q e =
     record { long = ap length e ∙ h; at = λ i l. even (get_or s i 0) (get_or p i 0) n q (ap (λ x. get_or x i 0) e) }
 
-added : (c : tie.Joined1 invariant-loop decreases-loop)
-    → let l = c.before.before.before.loop in Added l.sum c.before.double-each.result c.if1.sum l.left
+added : (c : tie.Joined-left-eq1 invariant-loop-left decreases-loop-left)
+    → let l = c.before.before.before.loop-left in Added l.sum c.before.double_each-doubled.result c.if-left-eq1.sum l.left
 added c =
-    let l = c.before.before.before.loop in
-    let q = c.before.double-each.result in
-    ⊎_elim (λ w. is_odd l.sum q w.0.taken w.1.ensures w.2) (λ w. is_even l.sum q l.invariant.0 w.0.left w.1) c.if1.branch
+    let l = c.before.before.before.loop-left in
+    let q = c.before.double_each-doubled.result in
+    ⊎_elim (λ w. is_odd l.sum q w.if-left-eq1.true w.sum_each-s.ensures w.sum-is) (λ w. is_even l.sum q l.invariant.0 w.if-left-eq1.false w.sum-is) c.if-left-eq1.branch-raw
 
-pub scale-odd-spec : {M : Type 1} → statement M
+pub scale_odd_spec : {M : Type 1} → statement M
 unfolding scaled
-scale-odd-spec =
+scale_odd_spec =
     tie.close
-    (tie.spec invariant-loop decreases-loop
-    (λ c. (array_length lanes c.args.x _ c.well-formed.0, λ i l. starting (get_or c.args.x i 0) c.args.by (array_byte lanes c.args.x _ c.well-formed.0 i) c.requires))
+    (tie.spec invariant-loop-left decreases-loop-left
+    (λ c. (array_length lanes c.args.x _ c.well_formed.0, λ i l. starting (get_or c.args.x i 0) c.args.by (array_byte lanes c.args.x _ c.well_formed.0 i) c.requires))
     (λ c κs. search rules)
     (λ c κs. search rules)
     (λ c. omega arith)
     (λ c.
     let d = c.before in
-    let l = d.before.before.loop in
-    let q = d.double-each.result in
-    let twice = doubled l.p q d.double-each.ensures in
+    let l = d.before.before.loop-left in
+    let q = d.double_each-doubled.result in
+    let twice = doubled l.p q d.double_each-doubled.ensures in
     let a = added c in (
       a.long,
       λ i h.
@@ -69,7 +69,7 @@ scale-odd-spec =
           (ap (λ u. get_or l.sum i 0 ⊕ u ⊗ l.left) (twice i h) ∙ l.invariant.1 i h),
     ))
     (λ c.
-    let l = c.before.loop in
+    let l = c.before.loop-left in
     let s = c.before.before in
     tabulate_is l.sum lanes _ 0 l.invariant.0
-    (λ i h. done _ _ _ c.loop-test.false (l.invariant.1 i h) ∙ ⊗_comm (get_or s.args.x i 0) s.args.by)))
+    (λ i h. done _ _ _ c.loop-left-test.false (l.invariant.1 i h) ∙ ⊗_comm (get_or s.args.x i 0) s.args.by)))

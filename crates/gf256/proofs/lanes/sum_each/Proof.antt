@@ -10,22 +10,22 @@ use Rattle.gf256.specs.Lanes.{lanes, sums}
 use Rattle.gf256.proofs.lanes.sum_each.Statement.{statement}
 use Rattle.gf256.proofs.lanes.sum_each.Tie as tie
 
-abbrev invariant-loop : tie.invariant-loop
-invariant-loop x y r₀ i₀ r i = Fill (λ k. get_or x k 0 ⊕ get_or y k 0) lanes i r
+abbrev invariant-loop-i : tie.invariant-loop-i
+invariant-loop-i x y r₀ i₀ r i = Fill (λ k. get_or x k 0 ⊕ get_or y k 0) lanes i r
 
-abbrev decreases-loop : tie.decreases-loop
-decreases-loop x y r₀ i₀ r i = lanes - i
+abbrev decreases-loop-i : tie.decreases-loop-i
+decreases-loop-i x y r₀ i₀ r i = lanes - i
 
-pub sum-each-spec : {M : Type 1} → statement M
+pub sum_each_spec : {M : Type 1} → statement M
 unfolding ◌⊕◌ sums
-sum-each-spec =
+sum_each_spec =
     tie.close
-    (tie.spec invariant-loop decreases-loop
+    (tie.spec invariant-loop-i decreases-loop-i
     (λ c. fill_none _ lanes _ refl)
     (λ c. search rules)
     (λ c. search rules)
     (λ c. search rules)
     (λ c. search rules)
     (λ c. search rules)
-    (λ c. fill_more c.before.loop.invariant c.loop-test.true refl)
-    (λ c. fill-all c.before.loop.invariant c.loop-test.false))
+    (λ c. fill_more c.before.loop-i.invariant c.loop-i-test.true refl)
+    (λ c. fill-all c.before.loop-i.invariant c.loop-i-test.false))

@@ -10,12 +10,12 @@ use Rattle.scheme.specs.Padding.{padded_count}
 use Rattle.scheme.proofs.padding.most_blocks.Statement.{statement}
 use Rattle.scheme.proofs.padding.most_blocks.Tie as tie
 
-pub most-blocks-spec : {M : Type 1} → statement M
+pub most_blocks_spec : {M : Type 1} → statement M
 unfolding padded_count
-most-blocks-spec =
+most_blocks_spec =
     tie.close
     (tie.spec
-    (λ c. sym (ap (λ (x : ℕ). max_message / x + 1) c.if1.true ∙ ap (λ (x : ℕ). x + 1) (div-zero max_message)))
+    (λ c. sym (ap (λ (x : ℕ). max_message / x + 1) c.if-block-eq0.true ∙ ap (λ (x : ℕ). x + 1) (div-zero max_message)))
     (λ c. search rules)
     (λ c. omega (arith, div-le_self max_message c.before.args.block))
     (λ c. refl))

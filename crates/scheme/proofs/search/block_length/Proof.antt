@@ -14,11 +14,11 @@ use Rattle.scheme.proofs.Multiples.{Searching, searching_first, first-divides, s
 use Rattle.scheme.proofs.search.block_length.Statement.{statement}
 use Rattle.scheme.proofs.search.block_length.Tie as tie
 
-abbrev invariant-loop : tie.invariant-loop
-invariant-loop first z counts m tried i₀ i = (i ≤ length counts) × (divides z (drop i counts) m ≡ divides z counts m)
+abbrev invariant-loop-i : tie.invariant-loop-i
+invariant-loop-i first z counts m tried i₀ i = (i ≤ length counts) × (divides z (drop i counts) m ≡ divides z counts m)
 
-abbrev decreases-loop : tie.decreases-loop
-decreases-loop first z counts m tried i₀ i = length counts - i
+abbrev decreases-loop-i : tie.decreases-loop-i
+decreases-loop-i first z counts m tried i₀ i = length counts - i
 
 abbrev invariant-search : tie.invariant-search
 invariant-search first z counts m₀ tried₀ m tried = (0 < first) × (tried ≤ m) × Searching z counts first m tried
@@ -26,14 +26,14 @@ invariant-search first z counts m₀ tried₀ m tried = (0 < first) × (tried �
 abbrev decreases-search : tie.decreases-search
 decreases-search first z counts m₀ tried₀ m tried = max_block + 1 - m
 
-pub block-length-spec : {M : Type 1} → statement M
-block-length-spec =
+pub block_length_spec : {M : Type 1} → statement M
+block_length_spec =
     tie.close
-    (tie.spec invariant-loop decreases-loop invariant-search decreases-search
+    (tie.spec invariant-loop-i decreases-loop-i invariant-search decreases-search
     (λ c.
     let s = c.before in
     (omega (arith, s.requires.1, s.requires.2 0 s.requires.0), omega arith, searching_first _ _ _ s.requires.1))
-    (λ c. omega (arith, c.search.invariant.2.within, c.before.before.requires.1, c.before.shared-slice-known.given 0))
+    (λ c. omega (arith, c.search.invariant.2.within, c.before.before.requires.1, c.before.shared_slice_known-1.given 0))
     (λ c. search rules)
     (λ c.
     let o = c.before in
@@ -45,33 +45,33 @@ block-length-spec =
     (λ c κs. search rules)
     (λ c.
     let l = c.before.before.before.before in
-    omega (arith, l.before.before.before.before.requires.2 l.loop.i (omega arith)))
+    omega (arith, l.before.before.before.before.requires.2 l.loop-i.i (omega arith)))
     (λ c.
     let l = c.before.before.before.before in
-    omega (arith, l.before.before.before.before.requires.2 l.loop.i (omega arith)))
+    omega (arith, l.before.before.before.before.requires.2 l.loop-i.i (omega arith)))
     (λ c. search rules)
     (λ c.
     let l = c.before.before.before.before.before in
     let o = l.before.before in
     let s = o.before.before in
-    let not = divides-not s.args.z s.args.counts.now _ l.loop.i (omega arith) (λ e. c.if3.true (cc)) in
-    (o.search.invariant.0, omega arith, searching_more _ _ _ _ _ o.search.invariant.2 l.before.if1.false (sym l.loop.invariant.1 ∙ not)))
+    let not = divides-not s.args.z s.args.counts.now _ l.loop-i.i (omega arith) (λ e. c.if-m-wide-ne0.true (cc)) in
+    (o.search.invariant.0, omega arith, searching_more _ _ _ _ _ o.search.invariant.2 l.before.if-m-gt-MAX_BLOCK.false (sym l.loop-i.invariant.1 ∙ not)))
     (λ c. search rules)
     (λ c. search rules)
     (λ c.
     let l = c.before.before.before.before.before in
     let s = l.before.before.before.before in
-    let next = divides-next s.args.z s.args.counts.now _ l.loop.i (omega arith) (cc) in
-    (omega arith, sym next ∙ l.loop.invariant.1))
+    let next = divides-next s.args.z s.args.counts.now _ l.loop-i.i (omega arith) (cc) in
+    (omega arith, sym next ∙ l.loop-i.invariant.1))
     (λ c.
     let o = c.before in
     let s = o.before.before in
     let above = each_of {A = ℕ} (λ d. s.args.z < d) s.args.counts.now 0 s.requires.2 in
-    search_past _ _ _ _ _ o.search.invariant.2 s.requires.0 above c.if1.true)
+    search_past _ _ _ _ _ o.search.invariant.2 s.requires.0 above c.if-m-gt-MAX_BLOCK.true)
     (λ c.
     let l = c.before in
     let o = l.before.before in
     let s = o.before.before in
     let above = each_of {A = ℕ} (λ d. s.args.z < d) s.args.counts.now 0 s.requires.2 in
-    let all = sym l.loop.invariant.1 ∙ divides_end s.args.z s.args.counts.now _ l.loop.i c.if2.true in
-    search_found _ _ _ _ _ o.search.invariant.2 s.requires.0 above l.before.if1.false all))
+    let all = sym l.loop-i.invariant.1 ∙ divides_end s.args.z s.args.counts.now _ l.loop-i.i c.if-i-counts.true in
+    search_found _ _ _ _ _ o.search.invariant.2 s.requires.0 above l.before.if-m-gt-MAX_BLOCK.false all))
