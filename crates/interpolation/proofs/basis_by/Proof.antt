@@ -11,29 +11,26 @@ use Rattle.interpolation.proofs.Rows.{zeros, zero-rows, Rows, not-distinct, rows
 use Rattle.interpolation.proofs.basis_by.Statement.{statement}
 use Rattle.interpolation.proofs.basis_by.Tie as tie
 
-abbrev invariant-loop : tie.invariant-loop
-invariant-loop points product table₀ i₀ table i = Rows points i table
+abbrev invariant-loop-i : tie.invariant-loop-i
+invariant-loop-i points product table₀ i₀ table i = Rows points i table
 
-abbrev decreases-loop : tie.decreases-loop
-decreases-loop points product table₀ i₀ table i = length points - i
+abbrev decreases-loop-i : tie.decreases-loop-i
+decreases-loop-i points product table₀ i₀ table i = length points - i
 
-pub basis-by-spec : {M : Type 1} → statement M
+pub basis_by_spec : {M : Type 1} → statement M
 unfolding zeros zero-rows
-basis-by-spec =
+basis_by_spec =
     tie.close
-    (tie.spec invariant-loop decreases-loop
+    (tie.spec invariant-loop-i decreases-loop-i
     (λ c κs. search rules)
-    (λ c. not-distinct _ (sym c.before.distinct.ensures ∙ not-true _ c.if1.true))
+    (λ c. not-distinct _ (sym c.distinct.ensures ∙ c.if-not-distinct.true))
     (λ c. rows_none _)
     (λ c κs.
-    let s = c.before.before in
-    let p = s.before.before in
-    ((omega arith, p.before.requires.0, sym s.before.distinct.ensures ∙ not-false _ s.if1.false), p.before.requires.1))
+    ((omega arith, c.requires.0, sym c.distinct.ensures ∙ c.if-not-distinct.false), c.requires.1))
     (λ c. search rules)
     (λ c. search rules)
     (λ c. search rules)
     (λ c. search rules)
     (λ c.
-    let l = c.before.before in
-    rows_more _ _ _ _ c.before.loop-test.true l.before.before.before.before.requires.0 c.basis-row.ensures l.loop.invariant)
-    (λ c. rows_all _ _ _ c.loop-test.false c.before.loop.invariant))
+    rows_more _ _ _ _ c.loop-i-test.true c.requires.0 c.basis_row.ensures c.loop-i.invariant)
+    (λ c. rows_all _ _ _ c.loop-i-test.false c.loop-i.invariant))

@@ -13,19 +13,19 @@ use Rattle.interpolation.proofs.Row.{Divided, divided_none, divided_more, divide
 use Rattle.interpolation.proofs.basis_row.Statement.{statement}
 use Rattle.interpolation.proofs.basis_row.Tie as tie
 
-abbrev invariant-loop : tie.invariant-loop
-invariant-loop points i product point quotient₀ above₀ value₀ e₀ quotient above value e = Divided points i e quotient above value
+abbrev invariant-loop-e : tie.invariant-loop-e
+invariant-loop-e points i product point quotient₀ above₀ value₀ e₀ quotient above value e = Divided points i e quotient above value
 
-abbrev decreases-loop : tie.decreases-loop
-decreases-loop points i product point quotient₀ above₀ value₀ e₀ quotient above value e = e
+abbrev decreases-loop-e : tie.decreases-loop-e
+decreases-loop-e points i product point quotient₀ above₀ value₀ e₀ quotient above value e = e
 
-pub basis-row-spec : {M : Type 1} → statement M
+pub basis_row_spec : {M : Type 1} → statement M
 unfolding ◌⊕◌
-basis-row-spec =
+basis_row_spec =
     tie.close
-    (tie.spec invariant-loop decreases-loop
+    (tie.spec invariant-loop-e decreases-loop-e
     (λ c. search rules)
-    (λ c. divided_none _ _ c.before.before.requires.0.0 c.before.before.requires.0.1)
+    (λ c. divided_none _ _ c.requires.0.0 c.requires.0.1)
     (λ c. search rules)
     (λ c κs. search rules)
     (λ c. search rules)
@@ -33,26 +33,17 @@ basis-row-spec =
     (λ c κs. search rules)
     (λ c. search rules)
     (λ c.
-    let l = c.before.before.before in
-    let s = l.before.before.before in
-    divided_more _ _ s.requires.0.0 s.requires.0.1 _ l.loop.e _ _ _ _ _ _ (omega arith) s.requires.1 l.loop.invariant c.before.mul-by-shifting.ensures c.mul-by-shifting2.ensures)
+    divided_more _ _ c.requires.0.0 c.requires.0.1 _ c.loop-e.e _ _ _ _ _ _ (omega arith) c.requires.1 c.loop-e.invariant c.mul_by_shifting.ensures c.mul_by_shifting-in-loop-e.ensures)
     (λ c κs. search rules)
     (λ c. search rules)
     (λ c. search rules)
     (λ c κs.
-    let a = c.before.before in
-    let l = a.before.before in
-    let s = l.before.before.before in
-    let bytes : Each Byte s.args.points.now = each_of Byte s.args.points.now 0 (λ k b. (l.before.shared-slice-known2.given k).fits) in
-    divided_invertible _ _ s.requires.0.0 s.requires.0.1 s.requires.0.2 bytes a.before.loop-test.false l.loop.invariant (sym a.inverse.ensures ∙ c.enum_told.given.1))
+    let bytes : Each Byte c.args.points.now = each_of Byte c.args.points.now 0 (λ k b. (c.shared_slice_known-2-1.given k).fits) in
+    divided_invertible _ _ c.requires.0.0 c.requires.0.1 c.requires.0.2 bytes c.loop-e-test.false c.loop-e.invariant (sym c.inverse.ensures ∙ c.in_default.is))
     (λ c. search rules)
     (λ c κs. search rules)
     (λ c κs. search rules)
     (λ c.
-    let f = c.before.before.before in
-    let a = f.before.before in
-    let l = a.before.before in
-    let s = l.before.before.before in
-    let bytes : Each Byte s.args.points.now = each_of Byte s.args.points.now 0 (λ k b. (l.before.shared-slice-known2.given k).fits) in
-    c.lowest.ensures ∙ ap (lowest side) c.before.scale-each.ensures
-    ∙ divided_row _ _ s.requires.0.0 s.requires.0.1 s.requires.0.2 bytes a.before.loop-test.false l.loop.invariant _ (sym a.inverse.ensures ∙ f.factor.given.1)))
+    let bytes : Each Byte c.args.points.now = each_of Byte c.args.points.now 0 (λ k b. (c.shared_slice_known-2-1.given k).fits) in
+    c.lowest.ensures ∙ ap (lowest side) c.scale_each.ensures
+    ∙ divided_row _ _ c.requires.0.0 c.requires.0.1 c.requires.0.2 bytes c.loop-e-test.false c.loop-e.invariant _ (sym c.inverse.ensures ∙ c.in-Inverse.is)))

@@ -9,20 +9,20 @@ use Rattle.lists.proofs.Search.{distinct_end, distinct_here, distinct-next}
 use Rattle.interpolation.proofs.distinct.Statement.{statement}
 use Rattle.interpolation.proofs.distinct.Tie as tie
 
-abbrev invariant-loop : tie.invariant-loop
-invariant-loop points i₀ i = distinct points ≡ distinct (drop i points)
+abbrev invariant-loop-i : tie.invariant-loop-i
+invariant-loop-i points i₀ i = distinct points ≡ distinct (drop i points)
 
-abbrev decreases-loop : tie.decreases-loop
-decreases-loop points i₀ i = length points - i
+abbrev decreases-loop-i : tie.decreases-loop-i
+decreases-loop-i points i₀ i = length points - i
 
-pub distinct-spec : {M : Type 1} → statement M
-distinct-spec =
+pub distinct_spec : {M : Type 1} → statement M
+distinct_spec =
     tie.close
-    (tie.spec invariant-loop decreases-loop
+    (tie.spec invariant-loop-i decreases-loop-i
     (λ c. refl)
     (λ c κs. search rules)
-    (λ c. sym (c.before.before.before.loop.invariant ∙ distinct_here _ _ c.before.before.loop-test.true (sym c.before.stands-again.ensures ∙ c.if1.true)))
+    (λ c. sym (c.loop-i.invariant ∙ distinct_here _ _ c.loop-i-test.true (sym c.stands_again.ensures ∙ c.if-stands_again.true)))
     (λ c. search rules)
     (λ c. search rules)
-    (λ c. c.before.before.before.loop.invariant ∙ distinct-next _ _ c.before.before.loop-test.true (sym c.before.stands-again.ensures ∙ c.if1.false))
-    (λ c. sym (c.before.loop.invariant ∙ distinct_end _ _ c.loop-test.false)))
+    (λ c. c.loop-i.invariant ∙ distinct-next _ _ c.loop-i-test.true (sym c.stands_again.ensures ∙ c.if-stands_again.false))
+    (λ c. sym (c.loop-i.invariant ∙ distinct_end _ _ c.loop-i-test.false)))

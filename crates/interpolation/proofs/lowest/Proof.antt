@@ -9,20 +9,20 @@ use Rattle.interpolation.specs.Interpolation.{side}
 use Rattle.interpolation.proofs.lowest.Statement.{statement}
 use Rattle.interpolation.proofs.lowest.Tie as tie
 
-abbrev invariant-loop : tie.invariant-loop
-invariant-loop bytes row₀ e₀ row e = Fill (λ k. get_or bytes k 0) side e row
+abbrev invariant-loop-e : tie.invariant-loop-e
+invariant-loop-e bytes row₀ e₀ row e = Fill (λ k. get_or bytes k 0) side e row
 
-abbrev decreases-loop : tie.decreases-loop
-decreases-loop bytes row₀ e₀ row e = side - e
+abbrev decreases-loop-e : tie.decreases-loop-e
+decreases-loop-e bytes row₀ e₀ row e = side - e
 
-pub lowest-spec : {M : Type 1} → statement M
-lowest-spec =
+pub lowest_spec : {M : Type 1} → statement M
+lowest_spec =
     tie.close
-    (tie.spec invariant-loop decreases-loop
+    (tie.spec invariant-loop-e decreases-loop-e
     (λ c. fill_none _ _ _ refl)
     (λ c. search rules)
     (λ c. search rules)
     (λ c. search rules)
     (λ c. search rules)
-    (λ c. fill_more c.before.loop.invariant c.loop-test.true refl)
-    (λ c. fill-all c.before.loop.invariant c.loop-test.false))
+    (λ c. fill_more c.loop-e.invariant c.loop-e-test.true refl)
+    (λ c. fill-all c.loop-e.invariant c.loop-e-test.false))

@@ -10,27 +10,25 @@ use Rattle.lists.proofs.Search.{occurs_end, occurs_here, occurs-next}
 use Rattle.interpolation.proofs.stands_again.Statement.{statement}
 use Rattle.interpolation.proofs.stands_again.Tie as tie
 
-abbrev invariant-loop : tie.invariant-loop
-invariant-loop points i j₀ j =
+abbrev invariant-loop-j : tie.invariant-loop-j
+invariant-loop-j points i j₀ j =
     (i < length points) × (occurs (get_or points i 0) (drop (i + 1) points) ≡ occurs (get_or points i 0) (drop j points))
 
-abbrev decreases-loop : tie.decreases-loop
-decreases-loop points i j₀ j = length points - j
+abbrev decreases-loop-j : tie.decreases-loop-j
+decreases-loop-j points i j₀ j = length points - j
 
-pub stands-again-spec : {M : Type 1} → statement M
-stands-again-spec =
+pub stands_again_spec : {M : Type 1} → statement M
+stands_again_spec =
     tie.close
-    (tie.spec invariant-loop decreases-loop
+    (tie.spec invariant-loop-j decreases-loop-j
     (λ c. search rules)
     (λ c. search rules)
     (λ c. search rules)
     (λ c. search rules)
     (λ c.
-    let l = c.before.before.before.before in
-    sym (l.loop.invariant.1 ∙ occurs_here _ _ l.loop.j c.before.before.before.loop-test.true c.if1.true))
+    sym (c.loop-j.invariant.1 ∙ occurs_here _ _ c.loop-j.j c.loop-j-test.true c.if-points-i.true))
     (λ c. search rules)
     (λ c. search rules)
     (λ c.
-    let l = c.before.before.before.before in
-    (l.loop.invariant.0, l.loop.invariant.1 ∙ occurs-next _ _ l.loop.j c.before.before.before.loop-test.true c.if1.false))
-    (λ c. sym (c.before.loop.invariant.1 ∙ occurs_end _ _ _ c.loop-test.false)))
+    (c.loop-j.invariant.0, c.loop-j.invariant.1 ∙ occurs-next _ _ c.loop-j.j c.loop-j-test.true c.if-points-i.false))
+    (λ c. sym (c.loop-j.invariant.1 ∙ occurs_end _ _ _ c.loop-j-test.false)))

@@ -18,18 +18,18 @@ use Rattle.interpolation.proofs.Table.{linear-at, linear_beyond}
 use Rattle.interpolation.proofs.times_linear.Statement.{statement}
 use Rattle.interpolation.proofs.times_linear.Tie as tie
 
-abbrev invariant-loop : tie.invariant-loop
-invariant-loop degree point poly longer₀ lower₀ e₀ longer lower e =
+abbrev invariant-loop-e : tie.invariant-loop-e
+invariant-loop-e degree point poly longer₀ lower₀ e₀ longer lower e =
     (e ≤ degree + 1) × Known 0 (λ k. get_or (linear point 0 poly) k 0) (side + 1) (λ k. e ≤ k → degree < k) longer × (lower ≡ get_or (0 ∷ poly) e 0)
 
-abbrev decreases-loop : tie.decreases-loop
-decreases-loop degree point poly longer₀ lower₀ e₀ longer lower e = degree + 1 - e
+abbrev decreases-loop-e : tie.decreases-loop-e
+decreases-loop-e degree point poly longer₀ lower₀ e₀ longer lower e = degree + 1 - e
 
-pub times-linear-spec : {M : Type 1} → statement M
+pub times_linear_spec : {M : Type 1} → statement M
 unfolding ◌⊕◌
-times-linear-spec =
+times_linear_spec =
     tie.close
-    (tie.spec invariant-loop decreases-loop
+    (tie.spec invariant-loop-e decreases-loop-e
     (λ c. (search rules, record { long = refl; is = λ k l b. replicate-at (side + 1) k 0 ∙ sym (linear_beyond _ _ _ c.requires.1 k (b (omega arith))) }, refl))
     (λ c. search rules)
     (λ c κs. search rules)
@@ -38,11 +38,11 @@ times-linear-spec =
     (λ c. search rules)
     (λ c. search rules)
     (λ c.
-    let l = c.before.before in (
+    (
       search rules,
-      known_more l.loop.invariant.1 (omega arith)
-          (ap₂ ◌⊕◌ l.loop.invariant.2 (c.mul-by-shifting.ensures ∙ ⊗_comm _ _) ∙ sym (linear-at l.before.args.point l.before.args.t1 l.loop.e))
+      known_more c.loop-e.invariant.1 (omega arith)
+          (ap₂ ◌⊕◌ c.loop-e.invariant.2 (c.mul_by_shifting.ensures ∙ ⊗_comm _ _) ∙ sym (linear-at c.args.point c.args.poly c.loop-e.e))
           (λ k b n j. b (omega arith)),
       rw add-one,
     ))
-    (λ c. known-all c.before.loop.invariant.1 (λ k l j. omega arith)))
+    (λ c. known-all c.loop-e.invariant.1 (λ k l j. omega arith)))

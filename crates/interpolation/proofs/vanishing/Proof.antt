@@ -9,29 +9,26 @@ use Rattle.interpolation.proofs.Table.{product_from, product_none, product_degre
 use Rattle.interpolation.proofs.vanishing.Statement.{statement}
 use Rattle.interpolation.proofs.vanishing.Tie as tie
 
-abbrev invariant-loop : tie.invariant-loop
-invariant-loop points product₀ j₀ product j = (j ≤ length points) × (product ≡ product_from points j)
+abbrev invariant-loop-j : tie.invariant-loop-j
+invariant-loop-j points product₀ j₀ product j = (j ≤ length points) × (product ≡ product_from points j)
 
-abbrev decreases-loop : tie.decreases-loop
-decreases-loop points product₀ j₀ product j = j
+abbrev decreases-loop-j : tie.decreases-loop-j
+decreases-loop-j points product₀ j₀ product j = j
 
-pub vanishing-spec : {M : Type 1} → statement M
-vanishing-spec =
+pub vanishing_spec : {M : Type 1} → statement M
+vanishing_spec =
     tie.close
-    (tie.spec invariant-loop decreases-loop
+    (tie.spec invariant-loop-j decreases-loop-j
     (λ c. search rules)
-    (λ c. (search rules, product_none c.before.args.points.now))
+    (λ c. (search rules, product_none c.args.points.now))
     (λ c. search rules)
     (λ c. search rules)
     (λ c. search rules)
     (λ c κs.
-    let l = c.before.before in
-    (omega arith, product_degree _ l.before.before.requires _ l.loop.j _ (omega arith) l.loop.invariant.0 l.loop.invariant.1))
+    (omega arith, product_degree _ c.requires _ c.loop-j.j _ (omega arith) c.loop-j.invariant.0 c.loop-j.invariant.1))
     (λ c. search rules)
     (λ c.
-    let l = c.before.before.before in
-    (search rules, product_more _ l.before.before.requires (l.loop.j - 1) l.loop.j _ _ (omega arith) l.loop.invariant.0 l.loop.invariant.1 c.times-linear.ensures))
+    (search rules, product_more _ c.requires (c.loop-j.j - 1) c.loop-j.j _ _ (omega arith) c.loop-j.invariant.0 c.loop-j.invariant.1 c.times_linear-longer.ensures))
     (λ c.
-    let l = c.before in
-    let none : l.loop.j ≡ 0 = omega arith in
-    l.loop.invariant.1 ∙ ap (product_from _) none))
+    let none : c.loop-j.j ≡ 0 = omega arith in
+    c.loop-j.invariant.1 ∙ ap (product_from _) none))

@@ -7,10 +7,10 @@ use lib.ListN.{get_or-eq_default}
 use Rattle.sheet.proofs.byte_or_0.Statement.{statement}
 use Rattle.sheet.proofs.byte_or_0.Tie as tie
 
-pub byte-or-0-spec : {M : Type 1} → statement M
-byte-or-0-spec =
+pub byte_or_0_spec : {M : Type 1} → statement M
+byte_or_0_spec =
     tie.close
     (tie.spec
     (λ c. search rules)
     (λ c. search rules)
-    (λ c. sym (get_or-eq_default {A = ℕ} c.before.args.input.now 0 c.if1.false)))
+    (λ c. sym (get_or-eq_default {A = ℕ} c.args.input.now 0 c.if-at-input.false)))

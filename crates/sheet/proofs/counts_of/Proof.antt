@@ -20,17 +20,17 @@ few l h =
     take_all (length l - 3) (drop 3 l) (omega (arith, length-drop 3 l))
     ∙ sym (drop-take 3 (max_input - 3) l ∙ take_all (max_input - 3) (drop 3 l) (omega (arith, length-drop 3 l)))
 
-pub counts-of-spec : {M : Type 1} → statement M
-counts-of-spec =
+pub counts_of_spec : {M : Type 1} → statement M
+counts_of_spec =
     tie.close
     (tie.spec
     (λ c. search rules)
-    (λ c. none c.before.before.args.input.now c.before.if1.true)
+    (λ c. none c.args.input.now c.if-input-le3.true)
     (λ c. search rules)
     (λ c. search rules)
     (λ c. search rules)
-    (λ c. few c.before.before.before.args.input.now (omega arith))
+    (λ c. few c.args.input.now (omega arith))
     (λ c. search rules)
     (λ c. search rules)
     (λ c. search rules)
-    (λ c. sym (drop-take 3 (max_input - 3) c.before.before.before.args.input.now)))
+    (λ c. sym (drop-take 3 (max_input - 3) c.args.input.now)))

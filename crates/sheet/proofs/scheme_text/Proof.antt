@@ -9,9 +9,9 @@ use Rattle.sheet.proofs.SheetText.{block_most, accepted_text, refused_text}
 use Rattle.sheet.proofs.scheme_text.Statement.{statement}
 use Rattle.sheet.proofs.scheme_text.Tie as tie
 
-pub scheme-text-spec : {M : Type 1} → statement M
+pub scheme_text_spec : {M : Type 1} → statement M
 unfolding line
-scheme-text-spec =
+scheme_text_spec =
     tie.close
     (tie.spec
     (λ c κs. search rules)
@@ -27,10 +27,10 @@ scheme-text-spec =
     (λ c.
     let d = c.before.before.before.before.before.before in
     let k = d.before.before in
-    let a = k.before.before.args in
-    rw (refused_text a.n a.r a.z a.counts.now k.check.result k.check.ensures _ _ d.enum_told.given.1 c.before.before.before.before.before.refusal.ensures)
-    ((adds_then c.before.before.word.ensures (adds_then c.before.number.ensures c.byte.ensures)).holds []
-    c.before.before.before.before.new.ensures))
+    let a = k.args in
+    rw (refused_text a.n a.r a.z a.counts.now k.check-answer.result k.check-answer.ensures _ _ d.in_default.is c.refusal-number.ensures)
+    ((adds_then c.word.ensures (adds_then c.number.ensures c.byte.ensures)).holds []
+    c.new.ensures))
     (λ c κs. search rules)
     (λ c. search rules)
     (λ c κs. search rules)
@@ -42,16 +42,16 @@ scheme-text-spec =
     (λ c κs.
     let d = c.before.before.before.before.before.before.before.before.before in
     let k = d.before.before in
-    let a = k.before.before.args in
-    block_most a.n a.r a.z a.counts.now k.check.result k.check.ensures _ d.answer.given.1)
+    let a = k.args in
+    block_most a.n a.r a.z a.counts.now k.check-answer.result k.check-answer.ensures _ d.in-Accepted.is)
     (λ c.
     let b = c.before in
     let d = b.before.before.before.before.before.before.before.before.before in
     let k = d.before.before in
-    let a = k.before.before.args in
-    rw (accepted_text a.n a.r a.z a.counts.now k.check.result k.check.ensures _ d.answer.given.1)
+    let a = k.args in
+    rw (accepted_text a.n a.r a.z a.counts.now k.check-answer.result k.check-answer.ensures _ d.in-Accepted.is)
     ((adds_then
-    (adds_then b.before.before.before.before.before.word2.ensures
-    (adds_then b.before.before.before.before.number2.ensures
-    (adds_then b.before.before.word3.ensures (adds_then b.before.number3.ensures b.byte2.ensures))))
-    c.with-counts.ensures).holds [] b.before.before.before.before.before.before.before.new2.ensures)))
+    (adds_then b.word-2.ensures
+    (adds_then b.number-2.ensures
+    (adds_then b.word-3.ensures (adds_then b.number-3.ensures b.byte-first.ensures))))
+    c.with_counts.ensures).holds [] b.new-2.ensures)))

@@ -6,23 +6,23 @@ use Rattle.sheet.proofs.SheetText.{sheet_default, sheet-given, scheme_text_short
 use Rattle.sheet.proofs.sheet.Statement.{statement}
 use Rattle.sheet.proofs.sheet.Tie as tie
 
-pub sheet-spec : {M : Type 1} → statement M
-sheet-spec =
+pub sheet_spec : {M : Type 1} → statement M
+sheet_spec =
     tie.close
     (tie.spec
     (λ c. search rules)
     (λ c κs. search rules)
     (λ c.
-    let input = c.before.before.before.before.args.input.now in
-    rw (sheet_default input c.before.before.if1.true) (whole c.scheme-text.ensures (scheme_text_short _ _ _ _)))
+    let input = c.args.input.now in
+    rw (sheet_default input c.if-input-eq0.true) (whole c.scheme_text.ensures (scheme_text_short _ _ _ _)))
     (λ c. search rules)
     (λ c κs. search rules)
     (λ c κs. search rules)
     (λ c κs. search rules)
     (λ c κs. search rules)
     (λ c.
-    let input = c.before.before.before.before.before.before.before.args.input.now in
+    let input = c.args.input.now in
     let holds =
-    rw (c.before.before.before.byte-or-0.ensures, c.before.before.byte-or-02.ensures, c.before.Counts-of.ensures)
-    at c.scheme-text2.ensures in
-    rw (sheet-given input c.before.before.before.before.before.if1.false) (whole holds (scheme_text_short _ _ _ _))))
+    rw (c.byte_or_0.ensures, c.byte_or_0-2.ensures, c.Counts-of.ensures)
+    at c.scheme_text-2.ensures in
+    rw (sheet-given input c.if-input-eq0.false) (whole holds (scheme_text_short _ _ _ _))))

@@ -11,9 +11,9 @@ use Rattle.sheet.proofs.SheetText.{rows_most}
 use Rattle.sheet.proofs.with_count.Statement.{statement}
 use Rattle.sheet.proofs.with_count.Tie as tie
 
-pub with-count-spec : {M : Type 1} → statement M
+pub with_count_spec : {M : Type 1} → statement M
 unfolding count_line line
-with-count-spec =
+with_count_spec =
     tie.close
     (tie.spec
     (λ c κs. search rules)
@@ -22,16 +22,16 @@ with-count-spec =
     (λ c κs. search rules)
     (λ c κs. search rules)
     (λ c.
-    let a = c.before.before.before.before.before.args in
-    let rows = c.before.before.before.before.rows_of-count in
+    let a = c.args in
+    let rows = c.rows_of_count-rows in
     let low : rows.result ≤ max_block = omega (arith, rows_most a.block a.z a.d) in
     let small : a.d ≤ 255 = omega arith in
     omega (arith, mul-le-mul small low))
     (λ c κs. search rules)
     (λ c κs. search rules)
     (λ c.
-    rw (← c.before.before.before.before.before.before.rows_of-count.ensures)
-    (adds_then c.before.before.before.before.before.number.ensures
-    (adds_then c.before.before.before.before.byte.ensures
-    (adds_then c.before.before.before.number2.ensures
-    (adds_then c.before.before.byte2.ensures (adds_then c.before.number3.ensures c.byte3.ensures)))))))
+    rw (← c.rows_of_count-rows.ensures)
+    (adds_then c.number.ensures
+    (adds_then c.byte.ensures
+    (adds_then c.number-2.ensures
+    (adds_then c.byte-2.ensures (adds_then c.number-3.ensures c.byte-3.ensures)))))))

@@ -6,10 +6,10 @@ use Rattle.interpolation.proofs.RowValues.{next_by_lanes}
 use Rattle.interpolation.proofs.RowValue.next.Statement.{statement}
 use Rattle.interpolation.proofs.RowValue.next.Tie as tie
 
-pub next-spec : {M : Type 1} → statement M
-next-spec =
+pub next_spec : {M : Type 1} → statement M
+next_spec =
     tie.close
     (tie.spec
     (λ c κs. search rules)
     (λ c κs. search rules)
-    (λ c. (refl, next_by_lanes _ _ _ c.before.scale-each.ensures c.sum-each.ensures)))
+    (λ c. (refl, next_by_lanes _ _ _ c.scale_each-scaled.ensures c.sum_each-sums.ensures)))

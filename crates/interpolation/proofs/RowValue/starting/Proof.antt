@@ -7,5 +7,5 @@ use Rattle.interpolation.proofs.RowValues.{next_of_zeros}
 use Rattle.interpolation.proofs.RowValue.starting.Statement.{statement}
 use Rattle.interpolation.proofs.RowValue.starting.Tie as tie
 
-pub starting-spec : {M : Type 1} → statement M
-starting-spec = tie.close (tie.spec (λ c. (refl, next_of_zeros _ _ (array_length lanes c.args.coefficient _ c.well-formed.1.0))))
+pub starting_spec : {M : Type 1} → statement M
+starting_spec = tie.close (tie.spec (λ c. (refl, next_of_zeros _ _ (array_length lanes c.args.coefficient _ c.well_formed.1.0))))

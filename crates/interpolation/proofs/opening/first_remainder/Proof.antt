@@ -13,22 +13,21 @@ use Rattle.interpolation.proofs.OpeningRows.{taken_none}
 use Rattle.interpolation.proofs.opening.first_remainder.Statement.{statement}
 use Rattle.interpolation.proofs.opening.first_remainder.Tie as tie
 
-abbrev invariant-loop : tie.invariant-loop
-invariant-loop d product row₀ e₀ row e = (e ≤ d) × Known 0 (λ k. get_or (take d product) k 0) side (λ k. e ≤ k → d ≤ k) row
+abbrev invariant-loop-e : tie.invariant-loop-e
+invariant-loop-e d product row₀ e₀ row e = (e ≤ d) × Known 0 (λ k. get_or (take d product) k 0) side (λ k. e ≤ k → d ≤ k) row
 
-abbrev decreases-loop : tie.decreases-loop
-decreases-loop d product row₀ e₀ row e = d - e
+abbrev decreases-loop-e : tie.decreases-loop-e
+decreases-loop-e d product row₀ e₀ row e = d - e
 
-pub first-remainder-spec : {M : Type 1} → statement M
-first-remainder-spec =
+pub first_remainder_spec : {M : Type 1} → statement M
+first_remainder_spec =
     tie.close
-    (tie.spec invariant-loop decreases-loop
+    (tie.spec invariant-loop-e decreases-loop-e
     (λ c. (search rules, taken_none side _ _))
     (λ c. search rules)
     (λ c. search rules)
     (λ c. search rules)
     (λ c. search rules)
     (λ c.
-    let l = c.before in
-    (search rules, known_more l.loop.invariant.1 (omega arith) (sym (get_or-take _ _ l.loop.e 0 c.loop-test.true)) (λ k b n j. b (omega arith))))
-    (λ c. known-all c.before.loop.invariant.1 (λ k l j. omega arith)))
+    (search rules, known_more c.loop-e.invariant.1 (omega arith) (sym (get_or-take _ _ c.loop-e.e 0 c.loop-e-test.true)) (λ k b n j. b (omega arith))))
+    (λ c. known-all c.loop-e.invariant.1 (λ k l j. omega arith)))

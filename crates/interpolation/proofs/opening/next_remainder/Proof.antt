@@ -19,21 +19,21 @@ use Rattle.interpolation.proofs.OpeningRows.{taken_none, taken-zero}
 use Rattle.interpolation.proofs.opening.next_remainder.Statement.{statement}
 use Rattle.interpolation.proofs.opening.next_remainder.Tie as tie
 
-abbrev invariant-loop : tie.invariant-loop
-invariant-loop d product last row₀ highest lower₀ e₀ row lower e =
+abbrev invariant-loop-e : tie.invariant-loop-e
+invariant-loop-e d product last row₀ highest lower₀ e₀ row lower e =
     (e ≤ d)
     × Known 0 (λ k. get_or (take d (plus (0 ∷ last) (scale (get_or last (d - 1) 0) product))) k 0) side (λ k. e ≤ k → d ≤ k) row
     × (lower ≡ get_or (0 ∷ last) e 0)
 
-abbrev decreases-loop : tie.decreases-loop
-decreases-loop d product last row₀ highest lower₀ e₀ row lower e = d - e
+abbrev decreases-loop-e : tie.decreases-loop-e
+decreases-loop-e d product last row₀ highest lower₀ e₀ row lower e = d - e
 
-pub next-remainder-spec : {M : Type 1} → statement M
+pub next_remainder_spec : {M : Type 1} → statement M
 unfolding ◌⊕◌
-next-remainder-spec =
+next_remainder_spec =
     tie.close
-    (tie.spec invariant-loop decreases-loop
-    (λ c. taken-zero side _ _ c.if1.true)
+    (tie.spec invariant-loop-e decreases-loop-e
+    (λ c. taken-zero side _ _ c.if-d-eq0.true)
     (λ c. search rules)
     (λ c. search rules)
     (λ c. (search rules, taken_none side _ _, refl))
@@ -44,12 +44,12 @@ next-remainder-spec =
     (λ c. search rules)
     (λ c. search rules)
     (λ c.
-    let l = c.before.before in (
+    (
       search rules,
-      known_more l.loop.invariant.1 (omega arith)
-          (ap₂ ◌⊕◌ l.loop.invariant.2 (c.mul-by-shifting.ensures ∙ ⊗_comm _ _)
-          ∙ sym (get_or-take _ _ l.loop.e 0 c.before.loop-test.true ∙ raised_at _ _ _ l.loop.e))
+      known_more c.loop-e.invariant.1 (omega arith)
+          (ap₂ ◌⊕◌ c.loop-e.invariant.2 (c.mul_by_shifting.ensures ∙ ⊗_comm _ _)
+          ∙ sym (get_or-take _ _ c.loop-e.e 0 c.loop-e-test.true ∙ raised_at _ _ _ c.loop-e.e))
           (λ k b n j. b (omega arith)),
       rw add-one,
     ))
-    (λ c. known-all c.before.loop.invariant.1 (λ k l j. omega arith)))
+    (λ c. known-all c.loop-e.invariant.1 (λ k l j. omega arith)))

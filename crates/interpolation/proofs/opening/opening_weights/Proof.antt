@@ -12,39 +12,37 @@ use Rattle.interpolation.proofs.OpeningRows.{KnownRows, first-row, next_row, ope
 use Rattle.interpolation.proofs.opening.opening_weights.Statement.{statement}
 use Rattle.interpolation.proofs.opening.opening_weights.Tie as tie
 
-abbrev invariant-loop : tie.invariant-loop
-invariant-loop points top d product table₀ end i₀ table i = (length points < i) × (i ≤ end) × KnownRows points top end i table
+abbrev invariant-loop-i : tie.invariant-loop-i
+invariant-loop-i points top d product table₀ end i₀ table i = (length points < i) × (i ≤ end) × KnownRows points top end i table
 
-abbrev decreases-loop : tie.decreases-loop
-decreases-loop points top d product table₀ end i₀ table i = end - i
+abbrev decreases-loop-i : tie.decreases-loop-i
+decreases-loop-i points top d product table₀ end i₀ table i = end - i
 
-pub opening-weights-spec : {M : Type 1} → statement M
+pub opening_weights_spec : {M : Type 1} → statement M
 unfolding zeros zero-rows
-opening-weights-spec =
+opening_weights_spec =
     tie.close
-    (tie.spec invariant-loop decreases-loop
+    (tie.spec invariant-loop-i decreases-loop-i
     (λ c.
-    let a = c.before.before.args in
-    opening_all a.points.now a.top (min a.top side) refl (length a.points.now) _ (omega (arith, c.if1.true))
-    (opening_none _ _ _ refl _ (too_many _ c.if1.true)))
-    (λ c κs. c.if1.false)
-    (λ c κs. (c.before.if1.false, c.vanishing.ensures))
+    let a = c.args in
+    opening_all a.points.now a.top (min a.top side) refl (length a.points.now) _ (omega (arith, c.if-d-gt-SIDE.true))
+    (opening_none _ _ _ refl _ (too_many _ c.if-d-gt-SIDE.true)))
+    (λ c κs. c.if-d-gt-SIDE.false)
+    (λ c κs. (c.if-d-gt-SIDE.false, c.vanishing-product.ensures))
     (λ c κs. search rules)
     (λ c.
-    let m = c.before in
-    opening_all _ _ _ m.smaller.ensures _ _ c.if2.true (opening_none _ _ _ m.smaller.ensures _ m.before.basis-by.ensures))
+    opening_all _ _ _ c.smaller-end.ensures _ _ c.if-end-d.true (opening_none _ _ _ c.smaller-end.ensures _ c.basis_by-table.ensures))
     (λ c κs. search rules)
     (λ c. search rules)
     (λ c. search rules)
     (λ c. search rules)
     (λ c.
-    let m = c.before.before in
-    let v = m.before.before in (
+    (
       omega arith,
-      omega (arith, c.before.if2.false),
-      opening_more _ _ _ m.smaller.ensures _ 0 _ _ (omega arith) c.before.if2.false
-          (c.first-remainder.ensures ∙ first-row _ _ v.before.if1.false v.vanishing.ensures)
-          (opening_none _ _ _ m.smaller.ensures _ m.before.basis-by.ensures),
+      omega (arith, c.if-end-d.false),
+      opening_more _ _ _ c.smaller-end.ensures _ 0 _ _ (omega arith) c.if-end-d.false
+          (c.first_remainder.ensures ∙ first-row _ _ c.if-d-gt-SIDE.false c.vanishing-product.ensures)
+          (opening_none _ _ _ c.smaller-end.ensures _ c.basis_by-table.ensures),
     ))
     (λ c. search rules)
     (λ c. search rules)
@@ -55,17 +53,14 @@ opening-weights-spec =
     (λ c. search rules)
     (λ c. search rules)
     (λ c.
-    let t = c.before.before in
-    let l = t.before.loop in
-    let m = t.before.before.before.before in
-    let v = m.before.before in
-    let k = l.i - 1 - length v.before.before.before.args.points.now in (
+    let l = c.loop-i in
+    let k = l.i - 1 - length c.args.points.now in (
       omega arith,
       omega arith,
-      opening_more _ _ _ m.smaller.ensures l.i (suc k) _ _ (omega (arith, l.invariant.0)) t.loop-test.true
-          (c.next-remainder.ensures
-          ∙ next_row _ _ v.before.if1.false v.vanishing.ensures k _
-          (opening_last _ _ _ m.smaller.ensures l.i _ k _ (omega arith) (omega arith) (omega arith) l.invariant.2))
+      opening_more _ _ _ c.smaller-end.ensures l.i (suc k) _ _ (omega (arith, l.invariant.0)) c.loop-i-test.true
+          (c.next_remainder.ensures
+          ∙ next_row _ _ c.if-d-gt-SIDE.false c.vanishing-product.ensures k _
+          (opening_last _ _ _ c.smaller-end.ensures l.i _ k _ (omega arith) (omega arith) (omega arith) l.invariant.2))
           l.invariant.2,
     ))
-    (λ c. opening_all _ _ _ c.before.before.before.before.smaller.ensures _ _ c.loop-test.false c.before.loop.invariant.2))
+    (λ c. opening_all _ _ _ c.smaller-end.ensures _ _ c.loop-i-test.false c.loop-i.invariant.2))

@@ -13,29 +13,27 @@ use Rattle.interpolation.proofs.OpeningRows.{value_none, value_more, value_cut}
 use Rattle.interpolation.proofs.opening.value_below.Statement.{statement}
 use Rattle.interpolation.proofs.opening.value_below.Tie as tie
 
-abbrev invariant-loop : tie.invariant-loop
-invariant-loop d x coefficients value₀ e₀ value e = (e ≤ min d side) × (value ≡ eval x (drop e (lowest (min d side) coefficients)))
+abbrev invariant-loop-e : tie.invariant-loop-e
+invariant-loop-e d x coefficients value₀ e₀ value e = (e ≤ min d side) × (value ≡ eval x (drop e (lowest (min d side) coefficients)))
 
-abbrev decreases-loop : tie.decreases-loop
-decreases-loop d x coefficients value₀ e₀ value e = e
+abbrev decreases-loop-e : tie.decreases-loop-e
+decreases-loop-e d x coefficients value₀ e₀ value e = e
 
-pub value-below-spec : {M : Type 1} → statement M
+pub value_below_spec : {M : Type 1} → statement M
 unfolding ◌⊕◌
-value-below-spec =
+value_below_spec =
     tie.close
-    (tie.spec invariant-loop decreases-loop
+    (tie.spec invariant-loop-e decreases-loop-e
     (λ c κs. search rules)
-    (λ c. (search rules, value_none _ _ _ c.before.args.t1 c.smaller.ensures))
+    (λ c. (search rules, value_none _ _ _ c.args.coefficients c.smaller-e.ensures))
     (λ c. search rules)
     (λ c. search rules)
     (λ c κs. search rules)
     (λ c. search rules)
     (λ c.
-    let l = c.before.before in
-    let a = l.before.before.args in
-    (search rules, value_more a.x _ (l.loop.e - 1) l.loop.e a.t1 _ _ (omega arith) l.loop.invariant.0 l.loop.invariant.1 c.mul-by-shifting.ensures))
+    let a = c.args in
+    (search rules, value_more a.x _ (c.loop-e.e - 1) c.loop-e.e a.coefficients _ _ (omega arith) c.loop-e.invariant.0 c.loop-e.invariant.1 c.mul_by_shifting.ensures))
     (λ c.
-    let s = c.before.before.before in
-    let a = s.args in
-    let none : c.before.loop.e ≡ 0 = omega arith in
-    rw none at c.before.loop.invariant.1 ∙ value_cut a.x a.d a.t1 (array_length side a.t1 _ s.well-formed.0)))
+    let a = c.args in
+    let none : c.loop-e.e ≡ 0 = omega arith in
+    rw none at c.loop-e.invariant.1 ∙ value_cut a.x a.d a.coefficients (array_length side a.coefficients _ c.well_formed.0)))

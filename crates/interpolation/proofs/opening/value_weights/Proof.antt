@@ -16,17 +16,17 @@ use Rattle.interpolation.proofs.OpeningRows.{value_party, value_known}
 use Rattle.interpolation.proofs.opening.value_weights.Statement.{statement}
 use Rattle.interpolation.proofs.opening.value_weights.Tie as tie
 
-abbrev invariant-loop : tie.invariant-loop
-invariant-loop weights d x chosen₀ power₀ i₀ chosen power i = Fill (value_weight weights d x) side i chosen × (power ≡ byte.power x i)
+abbrev invariant-loop-i : tie.invariant-loop-i
+invariant-loop-i weights d x chosen₀ power₀ i₀ chosen power i = Fill (value_weight weights d x) side i chosen × (power ≡ byte.power x i)
 
-abbrev decreases-loop : tie.decreases-loop
-decreases-loop weights d x chosen₀ power₀ i₀ chosen power i = side - i
+abbrev decreases-loop-i : tie.decreases-loop-i
+decreases-loop-i weights d x chosen₀ power₀ i₀ chosen power i = side - i
 
-pub value-weights-spec : {M : Type 1} → statement M
+pub value_weights_spec : {M : Type 1} → statement M
 unfolding ◌⊕◌ byte.power
-value-weights-spec =
+value_weights_spec =
     tie.close
-    (tie.spec invariant-loop decreases-loop
+    (tie.spec invariant-loop-i decreases-loop-i
     (λ c. (fill_none _ _ _ refl, refl))
     (λ c. search rules)
     (λ c. search rules)
@@ -36,13 +36,10 @@ value-weights-spec =
     (λ c. search rules)
     (λ c. search rules)
     (λ c.
-    let j = c.before in
-    let v = j.before in
-    let l = v.before.before.before in
-    let a = l.before.args in (
-      fill_more l.loop.invariant.0 v.before.before.loop-test.true
-          (⊎_elim (λ w. w.1 ∙ value_known a.weights.now a.d a.x l.loop.i _ v.value-below.ensures _ w.0.taken l.loop.invariant.1)
-          (λ w. w.1 ∙ value_party a.weights.now a.d a.x l.loop.i _ v.value-below.ensures w.0.left) j.if1.branch),
-      c.mul-by-shifting.ensures ∙ ⊗_comm _ _ ∙ ap (byte.◌⊗◌ a.x) l.loop.invariant.1 ∙ rw add-one,
+    let a = c.args in (
+      fill_more c.loop-i.invariant.0 c.loop-i-test.true
+          (⊎_elim (λ w. w.value-is ∙ value_known a.weights.now a.d a.x c.loop-i.i _ c.value_below-value.ensures _ w.if-d-i.true c.loop-i.invariant.1)
+          (λ w. w.value-is ∙ value_party a.weights.now a.d a.x c.loop-i.i _ c.value_below-value.ensures w.if-d-i.false) c.if-d-i.branch-raw),
+      c.mul_by_shifting-power.ensures ∙ ⊗_comm _ _ ∙ ap (byte.◌⊗◌ a.x) c.loop-i.invariant.1 ∙ rw add-one,
     ))
-    (λ c. fill-all c.before.loop.invariant.0 c.loop-test.false))
+    (λ c. fill-all c.loop-i.invariant.0 c.loop-i-test.false))

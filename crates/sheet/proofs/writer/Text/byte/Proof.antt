@@ -5,11 +5,11 @@ use Rattle.sheet.proofs.Written.{holds_byte, holds_full}
 use Rattle.sheet.proofs.writer.Text.byte.Statement.{statement}
 use Rattle.sheet.proofs.writer.Text.byte.Tie as tie
 
-pub byte-spec : {M : Type 1} → statement M
-byte-spec =
+pub byte_spec : {M : Type 1} → statement M
+byte_spec =
     tie.close
     (tie.spec
     (λ c. search rules)
     (λ c. search rules)
-    (λ c. record { holds = λ text h. holds_byte _ text _ h c.if1.true })
-    (λ c. record { holds = λ text h. holds_full _ text _ h c.if1.false }))
+    (λ c. record { holds = λ text h. holds_byte _ text _ h c.if-at-lt-MAX_TEXT.true })
+    (λ c. record { holds = λ text h. holds_full _ text _ h c.if-at-lt-MAX_TEXT.false }))

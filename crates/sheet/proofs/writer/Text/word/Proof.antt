@@ -10,20 +10,20 @@ use Rattle.sheet.proofs.Written.{adds_none, adds_then}
 use Rattle.sheet.proofs.writer.Text.word.Statement.{statement}
 use Rattle.sheet.proofs.writer.Text.word.Tie as tie
 
-abbrev invariant-loop : tie.invariant-loop
-invariant-loop word longer₀ i₀ longer i = (i ≤ length word) × Adds longer₀ longer (take i word)
+abbrev invariant-loop-i : tie.invariant-loop-i
+invariant-loop-i word longer₀ i₀ longer i = (i ≤ length word) × Adds longer₀ longer (take i word)
 
-abbrev decreases-loop : tie.decreases-loop
-decreases-loop word longer₀ i₀ longer i = length word - i
+abbrev decreases-loop-i : tie.decreases-loop-i
+decreases-loop-i word longer₀ i₀ longer i = length word - i
 
-pub word-spec : {M : Type 1} → statement M
-word-spec =
+pub word_spec : {M : Type 1} → statement M
+word_spec =
     tie.close
-    (tie.spec invariant-loop decreases-loop
+    (tie.spec invariant-loop-i decreases-loop-i
     (λ c. (search rules, adds_none _))
     (λ c. search rules)
     (λ c κs. search rules)
     (λ c. search rules)
     (λ c. search rules)
-    (λ c. (search rules, rw (add-one, take-suc {A = ℕ} _ _ 0 c.before.before.loop-test.true) (adds_then c.before.before.before.loop.invariant.1 c.byte.ensures)))
-    (λ c. rw (take_all _ _ c.loop-test.false) at c.before.loop.invariant.1))
+    (λ c. (search rules, rw (add-one, take-suc {A = ℕ} _ _ 0 c.loop-i-test.true) (adds_then c.loop-i.invariant.1 c.byte-longer.ensures)))
+    (λ c. rw (take_all _ _ c.loop-i-test.false) at c.loop-i.invariant.1))
