@@ -13,7 +13,7 @@ use Rattle.scheme.specs.declared.Answer.TheVariants.{Value, Refused}
 use Rattle.scheme.proofs.Laws.{default_accepted, told-accepted, told-refused, kept}
 use Rattle.staircase.specs.Parameters.{Parameters, AcceptedScheme, default_parameters, padded_blocks_of, output_bytes}
 use Rattle.staircase.specs.Shares.{padded_shares, PaddedKeyString}
-use Rattle.staircase.proofs.Hidden.{padded_hidden}
+use Rattle.staircase.proofs.Hiding.{padded_hidden}
 use Rattle.staircase.proofs.WholeBlocks.{keys-number}
 use Rattle.dealer.specs.SplitPadded.{split_padded_refusal, split_padded_answer, split_padded_output, SplitPaddedCall}
 use Rattle.dealer.proofs.Laws.{padded_none_applies, padded-written, padded_output_long}

@@ -29,7 +29,7 @@ use Rattle.family.proofs.Shares.{length_share}
 use Rattle.staircase.specs.Parameters.{Parameters, AcceptedScheme, Party, default_parameters, block, rows, blocks_of, padded_blocks_of, key_bytes, share_bytes}
 use Rattle.staircase.specs.Shares.{staircase, shares, padded_shares, part_of}
 use Rattle.staircase.proofs.Construction.{share_bytes_lem}
-use Rattle.staircase.proofs.Hidden.{part_is_share}
+use Rattle.staircase.proofs.Hiding.{part_is_share}
 use Rattle.staircase.proofs.Sizes.{block_some}
 use Rattle.agreement.specs.Agreement.{share_in, GiveAll, Agree, enough, rebuilt, agrees, named, Agreement}
 use Rattle.agreement.proofs.Laws.{agreement, same_share, names_one, to_all}

@@ -29,7 +29,7 @@ use Rattle.staircase.specs.Parameters.{Parameters, AcceptedScheme, Party, defaul
 use Rattle.staircase.specs.Shares.{staircase, shares, padded_shares, part_of, KeyString, PaddedKeyString}
 use Rattle.staircase.specs.Exactness.{prefix_bytes, opened_string}
 use Rattle.staircase.proofs.Construction.{share_bytes_lem}
-use Rattle.staircase.proofs.Hidden.{part_is_share}
+use Rattle.staircase.proofs.Hiding.{part_is_share}
 use Rattle.staircase.proofs.Sizes.{block_some, rows-within, rows_some, sent_some}
 use Rattle.staircase.proofs.WholeBlocks.{keys-number, exact, bytes-number}
 use Rattle.dealer.specs.Split.{split_output}

@@ -14,7 +14,7 @@ use Rattle.family.specs.Message.{Bytes}
 use Rattle.family.specs.Secrecy.{Hidden}
 use Rattle.staircase.specs.Parameters.{Parameters, AcceptedScheme, Party, default_parameters, blocks_of, key_bytes, output_bytes}
 use Rattle.staircase.specs.Shares.{shares, part_of, KeyString}
-use Rattle.staircase.proofs.Hidden.{message_hidden}
+use Rattle.staircase.proofs.Hiding.{message_hidden}
 use Rattle.staircase.proofs.WholeBlocks.{keys-number}
 use Rattle.scheme.specs.declared.Answer.{Answer}
 use Rattle.scheme.specs.declared.Answer.TheVariants.{Value, Refused}

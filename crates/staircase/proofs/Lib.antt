@@ -6,7 +6,7 @@ pub mod Columns
 pub mod Bytes
 pub mod Examples
 pub mod Secrecy
-pub mod Hidden
+pub mod Hiding
 pub mod Order
 pub mod OneRow
 pub mod Opening

@@ -23,6 +23,6 @@ sheet_spec =
     (λ c.
     let input = c.args.input.now in
     let holds =
-    rw (c.byte_or_0.ensures, c.byte_or_0-2.ensures, c.Counts-of.ensures)
+    rw (c.byte_or_0.ensures, c.byte_or_0-2.ensures, c.counts_of.ensures)
     at c.scheme_text-2.ensures in
     rw (sheet-given input c.if-input-eq0.false) (whole holds (scheme_text_short _ _ _ _))))
