@@ -19,7 +19,7 @@ mod search;
 pub use readers::{is_count, readers_refused};
 
 // An accepted scheme: its parameters, the block length m and the rows b of a block.
-#[derive(Drop)]
+#[derive(Clone, Copy)]
 pub struct Scheme {
     pub n: u8,
     pub r: u8,

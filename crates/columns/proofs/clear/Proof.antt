@@ -9,20 +9,20 @@ use Rattle.lists.proofs.Fill.{Fill, fill_none, fill_more, fill-all}
 use Rattle.columns.proofs.clear.Statement.{statement}
 use Rattle.columns.proofs.clear.Tie as tie
 
-abbrev invariant-loop : tie.invariant-loop
-invariant-loop out₀ k₀ out k = Fill (λ j. 0) (length out₀) k out
+abbrev invariant-loop-k : tie.invariant-loop-k
+invariant-loop-k out₀ k₀ out k = Fill (λ j. 0) (length out₀) k out
 
-abbrev decreases-loop : tie.decreases-loop
-decreases-loop out₀ k₀ out k = length out₀ - k
+abbrev decreases-loop-k : tie.decreases-loop-k
+decreases-loop-k out₀ k₀ out k = length out₀ - k
 
 pub clear_spec : {M : Type 1} → statement M
 clear_spec =
     tie.close
-    (tie.spec invariant-loop decreases-loop
+    (tie.spec invariant-loop-k decreases-loop-k
     (λ c. fill_none _ _ _ refl)
     (λ c. search rules)
     (λ c. search rules)
-    (λ c. omega (arith, c.before.loop.invariant.long))
-    (λ c. fill_more c.before.loop.invariant (omega (arith, c.before.loop.invariant.long)) refl)
-    (λ c. c.before.loop.invariant.long)
-    (λ c. fill-all c.before.loop.invariant (omega (arith, c.before.loop.invariant.long))))
+    (λ c. omega (arith, c.loop-k.invariant.long))
+    (λ c. fill_more c.loop-k.invariant (omega (arith, c.loop-k.invariant.long)) refl)
+    (λ c. c.loop-k.invariant.long)
+    (λ c. fill-all c.loop-k.invariant (omega (arith, c.loop-k.invariant.long))))

@@ -7,8 +7,8 @@ use Rattle.columns.proofs.FlatColumns.{flat_gathered, flat_past}
 use Rattle.columns.proofs.column.Statement.{statement}
 use Rattle.columns.proofs.column.Tie as tie
 
-pub column-spec : {M : Type 1} → statement M
-column-spec =
+pub column_spec : {M : Type 1} → statement M
+column_spec =
     tie.close
     (tie.spec
     (λ c κs. search rules)
@@ -16,7 +16,6 @@ column-spec =
     (λ c. search rules)
     (λ c. search rules)
     (λ c κs. search rules)
-    (λ c. let s = c.before.before.before.before.before.before in c.before.gather-into.ensures ∙ flat_gathered s.args.columns.now s.args.e)
+    (λ c. c.gather_into.ensures ∙ flat_gathered c.args.columns.now c.args.e)
     (λ c.
-    let s = c.before.before.before in
-    flat_past s.args.columns.now s.args.e (omega arith)))
+    flat_past c.args.columns.now c.args.e (omega arith)))

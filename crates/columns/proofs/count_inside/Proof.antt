@@ -8,8 +8,8 @@ use Rattle.columns.proofs.Gathered.{inside_63, inside_one, inside_still, inside_
 use Rattle.columns.proofs.count_inside.Statement.{statement}
 use Rattle.columns.proofs.count_inside.Tie as tie
 
-pub count-inside-spec : {M : Type 1} → statement M
-count-inside-spec =
+pub count_inside_spec : {M : Type 1} → statement M
+count_inside_spec =
     tie.close
     (tie.spec
     (λ c. search rules)
@@ -17,11 +17,11 @@ count-inside-spec =
     (λ c. search rules)
     (λ c. search rules)
     (λ c. search rules)
-    (λ c. inside_63 _ _ _ _ c.before.before.if1.false c.before.if2.true c.if3.true)
+    (λ c. inside_63 _ _ _ _ c.if-size-at.false c.if-most-le-LANES.true c.if-step-last.true)
     (λ c κs. search rules)
-    (λ c. rw c.smaller.ensures (inside_one _ _ _ _ c.before.before.before.if1.false c.before.if4.true))
-    (λ c. inside_still _ _ _ _ c.before.before.before.if1.false c.if5.true)
+    (λ c. rw c.smaller.ensures (inside_one _ _ _ _ c.if-size-at.false c.if-last-step.true))
+    (λ c. inside_still _ _ _ _ c.if-size-at.false c.if-step-eq0.true)
     (λ c. search rules)
-    (λ c. let s = c.before.before.before.before in omega (arith, div-le_self (s.args.size - 1 - s.args.at) s.args.step))
+    (λ c. omega (arith, div-le_self (c.args.size - 1 - c.args.at) c.args.step))
     (λ c κs. search rules)
-    (λ c. rw c.smaller2.ensures (inside_divided _ _ _ _ c.before.before.before.before.if1.false (omega arith))))
+    (λ c. rw c.smaller-2.ensures (inside_divided _ _ _ _ c.if-size-at.false (omega arith))))

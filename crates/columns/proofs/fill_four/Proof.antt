@@ -9,9 +9,9 @@ use Rattle.columns.proofs.Gathered.{four-set}
 use Rattle.columns.proofs.fill_four.Statement.{statement}
 use Rattle.columns.proofs.fill_four.Tie as tie
 
-pub fill-four-spec : {M : Type 1} → statement M
+pub fill_four_spec : {M : Type 1} → statement M
 unfolding strided_for
-fill-four-spec =
+fill_four_spec =
     tie.close
     (tie.spec
     (λ c. search rules)
@@ -28,8 +28,6 @@ fill-four-spec =
     (λ c. search rules)
     (λ c. search rules)
     (λ c.
-    let s = c.before.before.before.before in
-    (four-set s.args.s.now s.args.out.now s.args.at s.args.step s.requires.0).long ∙ sym s.requires.0)
+    (four-set c.args.s.now c.args.out.now c.args.at c.args.step c.requires.0).long ∙ sym c.requires.0)
     (λ c.
-    let s = c.before.before.before.before in
-    fill-all (four-set s.args.s.now s.args.out.now s.args.at s.args.step s.requires.0) (omega arith)))
+    fill-all (four-set c.args.s.now c.args.out.now c.args.at c.args.step c.requires.0) (omega arith)))

@@ -11,43 +11,42 @@ use Rattle.columns.proofs.Gathered.{Taken, taken_none, taken_more, taken-all}
 use Rattle.columns.proofs.fill_inside.Statement.{statement}
 use Rattle.columns.proofs.fill_inside.Tie as tie
 
-abbrev invariant-loop : tie.invariant-loop
-invariant-loop s at step out₀ turn₀ out turn = (turn ≤ 16) × Taken s at step lanes (turn * 4) out
+abbrev invariant-loop-turn : tie.invariant-loop-turn
+invariant-loop-turn s at step out₀ turn₀ out turn = (turn ≤ 16) × Taken s at step lanes (turn * 4) out
 
-abbrev decreases-loop : tie.decreases-loop
-decreases-loop s at step out₀ turn₀ out turn = 16 - turn
+abbrev decreases-loop-turn : tie.decreases-loop-turn
+decreases-loop-turn s at step out₀ turn₀ out turn = 16 - turn
 
 -- the entry
-abbrev start : tie.In-loop invariant-loop decreases-loop → tie.Start invariant-loop decreases-loop
+abbrev start : tie.In-loop-turn invariant-loop-turn decreases-loop-turn → tie.Start invariant-loop-turn decreases-loop-turn
 start c = c.before.before.before.before
 
 -- the last place of the turn is at most the last of all
-within : (c : tie.In-loop invariant-loop decreases-loop)
-    → c.before.loop.turn * 4 * (start c).args.step ≤ 60 * (start c).args.step
+within : (c : tie.In-loop-turn invariant-loop-turn decreases-loop-turn)
+    → c.loop-turn.turn * 4 * (start c).args.step ≤ 60 * (start c).args.step
 within c =
-    let last : c.before.loop.turn * 4 ≤ 60 = omega arith in
+    let last : c.loop-turn.turn * 4 ≤ 60 = omega arith in
     mul-le-mul_right (start c).args.step last
 
-pub fill-inside-spec : {M : Type 1} → statement M
-fill-inside-spec =
+pub fill_inside_spec : {M : Type 1} → statement M
+fill_inside_spec =
     tie.close
-    (tie.spec invariant-loop decreases-loop
-    (λ c. (search rules, taken_none _ _ _ lanes _ c.before.before.requires.0))
+    (tie.spec invariant-loop-turn decreases-loop-turn
+    (λ c. (search rules, taken_none _ _ _ lanes _ c.requires.0))
     (λ c. search rules)
     (λ c. search rules)
     (λ c. omega (arith, within c))
     (λ c. omega (arith, within c))
     (λ c. search rules)
     (λ c. search rules)
-    (λ c. omega (arith, c.before.loop.invariant.1.long))
+    (λ c. omega (arith, c.loop-turn.invariant.1.long))
     (λ c κs.
-    let l = c.before.before.loop in
+    let l = c.loop-turn in
     (part_length (l.turn * 4) 4 l.out (omega (arith, l.invariant.1.long)), omega (arith, within c.before)))
     (λ c. search rules)
     (λ c. search rules)
     (λ c.
-    let f = c.before.before in
-    let l = f.before.before.before.loop in
-    (search rules, taken_more l.invariant.1 4 _ _ f.fill-four.new.1.1.1.0 refl (omega arith) (omega arith) f.fill-four.ensures))
-    (λ c. c.before.loop.invariant.1.long ∙ sym c.before.before.before.before.requires.0)
-    (λ c. rw c.before.before.before.before.requires.0 (taken-all c.before.loop.invariant.1 (omega arith))))
+    let l = c.loop-turn in
+    (search rules, taken_more l.invariant.1 4 _ _ c.fill_four.new.out refl (omega arith) (omega arith) c.fill_four.ensures))
+    (λ c. c.loop-turn.invariant.1.long ∙ sym c.requires.0)
+    (λ c. rw c.requires.0 (taken-all c.loop-turn.invariant.1 (omega arith))))

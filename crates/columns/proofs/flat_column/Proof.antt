@@ -10,17 +10,17 @@ use Rattle.columns.specs.Columns.{flat_column}
 use Rattle.columns.proofs.flat_column.Statement.{statement}
 use Rattle.columns.proofs.flat_column.Tie as tie
 
-abbrev invariant-loop : tie.invariant-loop
-invariant-loop columns e column₀ k₀ column k = Fill (λ j. get_or columns (e * lanes + j) 0) lanes k column
+abbrev invariant-loop-k : tie.invariant-loop-k
+invariant-loop-k columns e column₀ k₀ column k = Fill (λ j. get_or columns (e * lanes + j) 0) lanes k column
 
-abbrev decreases-loop : tie.decreases-loop
-decreases-loop columns e column₀ k₀ column k = lanes - k
+abbrev decreases-loop-k : tie.decreases-loop-k
+decreases-loop-k columns e column₀ k₀ column k = lanes - k
 
-pub flat-column-spec : {M : Type 1} → statement M
+pub flat_column_spec : {M : Type 1} → statement M
 unfolding flat_column
-flat-column-spec =
+flat_column_spec =
     tie.close
-    (tie.spec invariant-loop decreases-loop
+    (tie.spec invariant-loop-k decreases-loop-k
     (λ c. fill_none _ lanes _ (length-replicate {A = ℕ} lanes 0))
     (λ c. search rules)
     (λ c. search rules)
@@ -28,5 +28,5 @@ flat-column-spec =
     (λ c. search rules)
     (λ c. search rules)
     (λ c. search rules)
-    (λ c. fill_more c.before.before.loop.invariant c.before.loop-test.true refl)
-    (λ c. fill-all c.before.loop.invariant c.loop-test.false))
+    (λ c. fill_more c.loop-k.invariant c.loop-k-test.true refl)
+    (λ c. fill-all c.loop-k.invariant c.loop-k-test.false))

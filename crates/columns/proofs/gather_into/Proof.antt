@@ -11,32 +11,27 @@ use Rattle.columns.proofs.gather_into.Statement.{statement}
 use Rattle.columns.proofs.gather_into.Tie as tie
 
 -- the part that is lent
-part : (c : tie.After-strided-into-arg)
-    → let r = c.before.before.before.before.before.before.count-inside.result in
-    length (take r c.before.before.before.clear.new.0) ≡ r
+part : (c : tie.After-strided_into-arg-1)
+    → let r = c.count_inside-inside.result in
+    length (take r c.clear.new.out) ≡ r
 part c =
-    let n = c.before.before.before.before.before.before in
-    length-take-le _ _ (rw (c.before.before.before.clear.ensures, length-tabulate) n.count-inside.ensures.within)
+    length-take-le _ _ (rw (c.clear.ensures, length-tabulate) c.count_inside-inside.ensures.within)
 
-pub gather-into-spec : {M : Type 1} → statement M
-gather-into-spec =
+pub gather_into_spec : {M : Type 1} → statement M
+gather_into_spec =
     tie.close
     (tie.spec
     (λ c κs. search rules)
     (λ c κs.
-    let n = c.before.before.before in
-    let all = n.count-inside.ensures.before 63 (omega arith) in
-    (c.before.if2.true, all))
+    let all = c.count_inside-inside.ensures.before 63 (omega arith) in
+    (c.if-out-eq-LANES.true, all))
     (λ c. search rules)
     (λ c. search rules)
     (λ c κs. search rules)
     (λ c. search rules)
     (λ c. sym (part c))
     (λ c κs.
-    let n = c.before.before.before.before.before.before in
-    (λ k h. n.count-inside.ensures.before k (omega (arith, part c))))
+    (λ k h. c.count_inside-inside.ensures.before k (omega (arith, part c))))
     (λ c. search rules)
     (λ c.
-    let w = c.before.before in
-    let n = w.before.before.before.before.before.before.before in
-    inside_then_zeros _ _ _ _ _ _ _ n.count-inside.ensures w.before.before.before.before.clear.ensures (rw (part w.before) at w.strided-into.ensures)))
+    inside_then_zeros _ _ _ _ _ _ _ c.count_inside-inside.ensures c.clear.ensures (rw (part c.before.before.before) at c.strided_into.ensures)))

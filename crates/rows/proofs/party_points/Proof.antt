@@ -12,17 +12,17 @@ use Rattle.rows.proofs.Points.{points_none, points_more, points-all}
 use Rattle.rows.proofs.party_points.Statement.{statement}
 use Rattle.rows.proofs.party_points.Tie as tie
 
-abbrev invariant-loop : tie.invariant-loop
-invariant-loop n points₀ end i₀ points i = (p : Parameters) → Written 0 (point_at p n (λ k. k + 1)) side (min n side) i points
+abbrev invariant-loop-i : tie.invariant-loop-i
+invariant-loop-i n points₀ end i₀ points i = (p : Parameters) → Written 0 (point_at p n (λ k. k + 1)) side (min n side) i points
 
-abbrev decreases-loop : tie.decreases-loop
-decreases-loop n points₀ end i₀ points i = end - i
+abbrev decreases-loop-i : tie.decreases-loop-i
+decreases-loop-i n points₀ end i₀ points i = end - i
 
-pub party-points-spec : {M : Type 1} → statement M
+pub party_points_spec : {M : Type 1} → statement M
 unfolding party_points
-party-points-spec =
+party_points_spec =
     tie.close
-    (tie.spec invariant-loop decreases-loop
+    (tie.spec invariant-loop-i decreases-loop-i
     (λ c κs. search rules)
     (λ c p. points_none _ _ _)
     (λ c. search rules)
@@ -31,5 +31,5 @@ party-points-spec =
     (λ c. search rules)
     (λ c. search rules)
     (λ c. search rules)
-    (λ c p. points_more _ _ _ (c.before.before.loop.invariant p) (omega arith) (c.point-of.ensures p))
-    (λ c p. points-all _ _ _ (c.before.loop.invariant p) (omega arith)))
+    (λ c p. points_more _ _ _ (c.loop-i.invariant p) (omega arith) (c.point_of.ensures p))
+    (λ c p. points-all _ _ _ (c.loop-i.invariant p) (omega arith)))

@@ -5,6 +5,6 @@ use Rattle.staircase.specs.Parameters.{point}
 use Rattle.rows.proofs.point_of.Statement.{statement}
 use Rattle.rows.proofs.point_of.Tie as tie
 
-pub point-of-spec : {M : Type 1} → statement M
+pub point_of_spec : {M : Type 1} → statement M
 unfolding point
-point-of-spec = tie.close (tie.spec (λ c p. refl))
+point_of_spec = tie.close (tie.spec (λ c p. refl))

@@ -13,17 +13,17 @@ use Rattle.rows.proofs.Points.{points_none, points_more, points-all}
 use Rattle.rows.proofs.points_of.Statement.{statement}
 use Rattle.rows.proofs.points_of.Tie as tie
 
-abbrev invariant-loop : tie.invariant-loop
-invariant-loop parties points₀ end i₀ points i = (p : Parameters) → Written 0 (point_at p (length parties) (λ k. get_or parties k 0)) side (min (length parties) side) i points
+abbrev invariant-loop-i : tie.invariant-loop-i
+invariant-loop-i parties points₀ end i₀ points i = (p : Parameters) → Written 0 (point_at p (length parties) (λ k. get_or parties k 0)) side (min (length parties) side) i points
 
-abbrev decreases-loop : tie.decreases-loop
-decreases-loop parties points₀ end i₀ points i = end - i
+abbrev decreases-loop-i : tie.decreases-loop-i
+decreases-loop-i parties points₀ end i₀ points i = end - i
 
-pub points-of-spec : {M : Type 1} → statement M
+pub points_of_spec : {M : Type 1} → statement M
 unfolding points_of
-points-of-spec =
+points_of_spec =
     tie.close
-    (tie.spec invariant-loop decreases-loop
+    (tie.spec invariant-loop-i decreases-loop-i
     (λ c κs. search rules)
     (λ c p. points_none _ _ _)
     (λ c. search rules)
@@ -31,5 +31,5 @@ points-of-spec =
     (λ c. search rules)
     (λ c. search rules)
     (λ c. search rules)
-    (λ c p. points_more _ _ _ (c.before.before.before.loop.invariant p) (omega arith) (c.point-of.ensures p))
-    (λ c p. points-all _ _ _ (c.before.loop.invariant p) (omega arith)))
+    (λ c p. points_more _ _ _ (c.loop-i.invariant p) (omega arith) (c.point_of.ensures p))
+    (λ c p. points-all _ _ _ (c.loop-i.invariant p) (omega arith)))

@@ -8,34 +8,29 @@ use Rattle.rows.proofs.Steps.{First, Later, found_key, found_past, found-rising,
 use Rattle.rows.proofs.source_of.Statement.{statement}
 use Rattle.rows.proofs.source_of.Tie as tie
 
-in-first : (c : tie.Then3) → let w = c.before.before.before in let a = w.before.before.before.args in
-    First a.block a.z a.counts.now a.row a.degree w.count_at.result w.before.wide.result
+in-first : (c : tie.Then-i-eq0) → let w = c.before.before.before in let a = w.args in
+    First a.block a.z a.counts.now a.row a.degree w.count_at-d.result w.wide-low.result
 in-first c =
-    let w = c.before.before.before in
-    first _ _ _ _ _ _ _ _ w.before.wide.ensures w.before.before.before.requires w.count_at.ensures (omega arith) (omega arith) c.if3.true
+    first _ _ _ _ _ _ _ _ c.wide-low.ensures c.requires c.count_at-d.ensures (omega arith) (omega arith) c.if-i-eq0.true
 
-in-later : (c : tie.After-rows-of-count) → let u = c.before.before in let w = u.before.before.before.before in
-    let a = w.before.before.before.args in let d = w.count_at.result in let low = w.before.wide.result in
-    let before = c.rows_of-count.result in
-    Later a.block a.z a.counts.now a.row a.degree d u.count-at2.result before ((a.row - before) * (d - low) + (a.degree - low))
+in-later : (c : tie.After-rows_of_count-before) → let u = c.before.before in let w = u.before.before.before.before in
+    let a = w.args in let d = w.count_at-d.result in let low = w.wide-low.result in
+    let before = c.rows_of_count-before.result in
+    Later a.block a.z a.counts.now a.row a.degree d u.count_at-above.result before ((a.row - before) * (d - low) + (a.degree - low))
 in-later c =
-    let u = c.before.before in
-    let w = u.before.before.before.before in
-    later _ _ _ _ _ _ _ _ w.before.wide.ensures w.before.before.before.requires w.count_at.ensures (omega arith) (omega arith)
-    _ u.before.if3.false u.count-at2.ensures _ _ c.before.if4.false c.rows_of-count.ensures refl
+    later _ _ _ _ _ _ _ _ c.wide-low.ensures c.requires c.count_at-d.ensures (omega arith) (omega arith)
+    _ c.if-i-eq0.false c.count_at-above.ensures _ _ c.if-above-d.false c.rows_of_count-before.ensures refl
 
-pub source-of-spec : {M : Type 1} → statement M
-source-of-spec =
+pub source_of_spec : {M : Type 1} → statement M
+source_of_spec =
     tie.close
     (tie.spec
     (λ c κs. search rules)
     (λ c κs. search rules)
     (λ c.
-    let w = c.before in
-    found_key _ _ _ _ _ _ _ _ w.before.wide.ensures w.before.before.before.requires w.count_at.ensures c.if1.true)
+    found_key _ _ _ _ _ _ _ _ c.wide-low.ensures c.requires c.count_at-d.ensures c.if-degree-low.true)
     (λ c.
-    let w = c.before.before in
-    found_past _ _ _ _ _ _ _ _ w.before.wide.ensures w.before.before.before.requires w.count_at.ensures c.if2.true)
+    found_past _ _ _ _ _ _ _ _ c.wide-low.ensures c.requires c.count_at-d.ensures c.if-d-degree.true)
     (λ c. search rules)
     (λ c. let f = in-first c in omega arith)
     (λ c. let f = in-first c in omega arith)
@@ -43,9 +38,8 @@ source-of-spec =
     (λ c. search rules)
     (λ c κs. search rules)
     (λ c.
-    let w = c.before.before.before.before.before in
-    found-rising _ _ _ _ _ _ _ _ w.before.wide.ensures w.before.before.before.requires w.count_at.ensures (omega arith) (omega arith)
-    _ c.before.before.if3.false c.before.count-at2.ensures c.if4.true)
+    found-rising _ _ _ _ _ _ _ _ c.wide-low.ensures c.requires c.count_at-d.ensures (omega arith) (omega arith)
+    _ c.if-i-eq0.false c.count_at-above.ensures c.if-above-d.true)
     (λ c κs. search rules)
     (λ c. let l = in-later c in omega arith)
     (λ c. search rules)
@@ -53,7 +47,7 @@ source-of-spec =
     (λ c. let l = in-later c in omega arith)
     (λ c. search rules)
     (λ c. search rules)
-    (λ c. (in-later c.before).late c.if5.true)
+    (λ c. (in-later c.before).late c.if-row-earlier.true)
     (λ c. search rules)
     (λ c. let l = in-later c.before in omega arith)
-    (λ c. (in-later c.before).copied c.if5.false))
+    (λ c. (in-later c.before).copied c.if-row-earlier.false))
