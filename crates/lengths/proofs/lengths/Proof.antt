@@ -6,23 +6,21 @@ use Rattle.lengths.proofs.Told.{short, scheme_is, rows_small, lengths-told, refu
 use Rattle.lengths.proofs.lengths.Statement.{statement}
 use Rattle.lengths.proofs.lengths.Tie as tie
 
-pub lengths-spec : {M : Type 1} → statement M
-lengths-spec =
+pub lengths_spec : {M : Type 1} → statement M
+lengths_spec =
     tie.close
     (tie.spec
     (λ c κs. search rules)
     (λ c. search rules)
     (λ c. search rules)
     (λ c κs. search rules)
-    (λ c. refusal-told _ _ c.before.before.before.scheme-for.ensures c.before.enum_told.given.1 c.refusal.ensures _ _)
+    (λ c. refusal-told _ _ c.scheme_for-answer.ensures c.in_default.is c.refusal.ensures _ _)
     (λ c κs. search rules)
     (λ c κs.
-    let k = c.before.before in
-    let e = k.before.before.scheme-for.ensures in
-    let told = k.answer.given.1 in
-    (rows_small _ _ e told, blocks_few _ _ (scheme_is _ _ e told) _ _ c.block-count.ensures (short _ _ e told)))
+    let e = c.scheme_for-answer.ensures in
+    let told = c.in-Accepted.is in
+    (rows_small _ _ e told, blocks_few _ _ (scheme_is _ _ e told) _ _ c.block_count-blocks.ensures (short _ _ e told)))
     (λ c.
-    let k = c.before.before.before in
-    let e = k.before.before.scheme-for.ensures in
-    let told = k.answer.given.1 in
-    rw (← blocks_are _ _ (scheme_is _ _ e told) _ _ c.before.block-count.ensures) (lengths-told _ _ e told _ _ _ c.of_blocks.ensures)))
+    let e = c.scheme_for-answer.ensures in
+    let told = c.in-Accepted.is in
+    rw (← blocks_are _ _ (scheme_is _ _ e told) _ _ c.block_count-blocks.ensures) (lengths-told _ _ e told _ _ _ c.of_blocks.ensures)))

@@ -5,5 +5,5 @@ use borrow.Author.Rules.{rules}
 use Rattle.lengths.proofs.lengths_default.Statement.{statement}
 use Rattle.lengths.proofs.lengths_default.Tie as tie
 
-pub lengths-default-spec : {M : Type 1} → statement M
-lengths-default-spec = tie.close (tie.spec (λ c. search rules) (λ c κs. search rules) (λ c. c.lengths.ensures))
+pub lengths_default_spec : {M : Type 1} → statement M
+lengths_default_spec = tie.close (tie.spec (λ c. search rules) (λ c κs. search rules) (λ c. c.lengths.ensures))

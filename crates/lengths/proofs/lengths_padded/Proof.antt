@@ -10,33 +10,27 @@ use Rattle.lengths.proofs.Told.{short, scheme_is, block_small, rows_small, lengt
 use Rattle.lengths.proofs.lengths_padded.Statement.{statement}
 use Rattle.lengths.proofs.lengths_padded.Tie as tie
 
-few : (c : tie.After-padded-count) → c.padded-count.result ≤ max_blocks
+few : (c : tie.After-padded_count-blocks) → c.padded_count-blocks.result ≤ max_blocks
 few c =
-    let k = c.before.before in
-    rw c.padded-count.ensures (padded_count_few _ _ (short _ _ k.before.before.scheme-for.ensures k.answer.given.1))
+    rw c.padded_count-blocks.ensures (padded_count_few _ _ (short _ _ c.scheme_for-answer.ensures c.in-Accepted.is))
 
-pub lengths-padded-spec : {M : Type 1} → statement M
-lengths-padded-spec =
+pub lengths_padded_spec : {M : Type 1} → statement M
+lengths_padded_spec =
     tie.close
     (tie.spec
     (λ c κs. search rules)
     (λ c. search rules)
     (λ c. search rules)
     (λ c κs. search rules)
-    (λ c. refusal-told _ _ c.before.before.before.scheme-for.ensures c.before.enum_told.given.1 c.refusal.ensures _ _)
+    (λ c. refusal-told _ _ c.scheme_for-answer.ensures c.in_default.is c.refusal.ensures _ _)
     (λ c κs.
-    let k = c.before in
-    let e = k.before.before.scheme-for.ensures in
-    ((block_small _ _ e k.answer.given.1).0, short _ _ e k.answer.given.1))
+    let e = c.scheme_for-answer.ensures in
+    ((block_small _ _ e c.in-Accepted.is).0, short _ _ e c.in-Accepted.is))
     (λ c.
-    let k = c.before.before.before in
-    omega (arith, mul-le-mul (few c.before) (block_small _ _ k.before.before.scheme-for.ensures k.answer.given.1).1))
+    omega (arith, mul-le-mul (few c.before) (block_small _ _ c.scheme_for-answer.ensures c.in-Accepted.is).1))
     (λ c κs.
-    let k = c.before.before.before in
-    (rows_small _ _ k.before.before.scheme-for.ensures k.answer.given.1, few c.before))
+    (rows_small _ _ c.scheme_for-answer.ensures c.in-Accepted.is, few c.before))
     (λ c.
-    let b = c.before.before in
-    let k = b.before.before in
-    let e = k.before.before.scheme-for.ensures in
-    let told = k.answer.given.1 in
-    rw (← (scheme_is _ _ e told).block_is, ← b.padded-count.ensures) (lengths-told _ _ e told _ _ _ c.of_blocks.ensures)))
+    let e = c.scheme_for-answer.ensures in
+    let told = c.in-Accepted.is in
+    rw (← (scheme_is _ _ e told).block_is, ← c.padded_count-blocks.ensures) (lengths-told _ _ e told _ _ _ c.of_blocks.ensures)))

@@ -5,5 +5,5 @@ use borrow.Author.Rules.{rules}
 use Rattle.lengths.proofs.lengths_padded_default.Statement.{statement}
 use Rattle.lengths.proofs.lengths_padded_default.Tie as tie
 
-pub lengths-padded-default-spec : {M : Type 1} → statement M
-lengths-padded-default-spec = tie.close (tie.spec (λ c. search rules) (λ c κs. search rules) (λ c. c.lengths-padded.ensures))
+pub lengths_padded_default_spec : {M : Type 1} → statement M
+lengths_padded_default_spec = tie.close (tie.spec (λ c. search rules) (λ c κs. search rules) (λ c. c.lengths_padded.ensures))

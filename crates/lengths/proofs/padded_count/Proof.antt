@@ -7,7 +7,7 @@ use Rattle.scheme.specs.Padding.{padded_count}
 use Rattle.lengths.proofs.padded_count.Statement.{statement}
 use Rattle.lengths.proofs.padded_count.Tie as tie
 
-pub padded-count-spec : {M : Type 1} → statement M
+pub padded_count_spec : {M : Type 1} → statement M
 unfolding padded_count
-padded-count-spec =
+padded_count_spec =
     tie.close (tie.spec (λ c. c.requires.0) (λ c. let a = c.args in omega (arith, c.requires.1, div-le_self a.bytes a.block)) (λ c. refl))
