@@ -8,17 +8,16 @@ use Rattle.order.proofs.ReadingOrder.{before_none, before_some}
 use Rattle.order.proofs.rows_before.Statement.{statement}
 use Rattle.order.proofs.rows_before.Tie as tie
 
-pub rows-before-spec : {M : Type 1} → statement M
-rows-before-spec =
+pub rows_before_spec : {M : Type 1} → statement M
+rows_before_spec =
     tie.close
     (tie.spec
-    (λ c. before_none _ _ _ _ c.if1.true)
+    (λ c. before_none _ _ _ _ c.if-g-eq0.true)
     (λ c. search rules)
     (λ c κs. search rules)
     (λ c κs. search rules)
     (λ c.
-    let k = c.before in
-    let a = k.before.before.before.args in
-    c.rows_of-count.ensures
-    ∙ ap (rows_of_count a.block a.z) k.count_at.ensures
-    ∙ before_some a.block a.z a.counts.now a.g (omega (arith, k.before.if1.false))))
+    let a = c.args in
+    c.rows_of_count.ensures
+    ∙ ap (rows_of_count a.block a.z) c.count_at.ensures
+    ∙ before_some a.block a.z a.counts.now a.g (omega (arith, c.if-g-eq0.false))))

@@ -9,24 +9,20 @@ use borrow.Author.Rules.{rules}
 use Rattle.party.proofs.prefix.Statement.{statement}
 use Rattle.party.proofs.prefix.Tie as tie
 
-pub prefix-spec : {M : Type 1} → statement M
-prefix-spec =
+pub prefix_spec : {M : Type 1} → statement M
+prefix_spec =
     tie.close
     (tie.spec
     (λ c κs. search rules)
     (λ c. search rules)
     (λ c. search rules)
-    (λ c. sym (length-take-le _ c.before.before.before.before.before.before.args.share.now (search rules)))
-    (λ c. (prefix_none _ _ _ _ _ c.before.before.before.prefix-length.ensures c.before.enum_told.given.1, refl))
+    (λ c. sym (length-take-le _ c.args.share.now (search rules)))
+    (λ c. (prefix_none _ _ _ _ _ c.prefix_length-answer.ensures c.in_default.is, refl))
     (λ c.
-    let a = c.before.before in
-    let call = a.before.before in
-    let x = call.before.before.before.args in
+    let x = c.args in
     let p = parameters x.n x.r x.z x.counts.now in
-    prefix_long p _ _ x.share.now _ call.prefix-length.ensures a.answer.given.0.0 a.answer.given.1)
+    prefix_long p _ _ x.share.now _ c.prefix_length-answer.ensures c.in-Value.bytes c.in-Value.is)
     (λ c.
-    let a = c.before.before in
-    let call = a.before.before in
-    let x = call.before.before.before.args in
+    let x = c.args in
     let p = parameters x.n x.r x.z x.counts.now in
-    (prefix_is p _ _ x.share.now _ call.prefix-length.ensures a.answer.given.0.0 a.answer.given.1, refl)))
+    (prefix_is p _ _ x.share.now _ c.prefix_length-answer.ensures c.in-Value.bytes c.in-Value.is, refl)))

@@ -5,5 +5,5 @@ use borrow.Author.Rules.{rules}
 use Rattle.party.proofs.prefix_default.Statement.{statement}
 use Rattle.party.proofs.prefix_default.Tie as tie
 
-pub prefix-default-spec : {M : Type 1} → statement M
-prefix-default-spec = tie.close (tie.spec (λ c. search rules) (λ c κs. search rules) (λ c. c.prefix.ensures))
+pub prefix_default_spec : {M : Type 1} → statement M
+prefix_default_spec = tie.close (tie.spec (λ c. search rules) (λ c κs. search rules) (λ c. c.prefix.ensures))

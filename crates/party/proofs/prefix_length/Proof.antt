@@ -15,57 +15,45 @@ use Rattle.party.proofs.prefix_length.Statement.{statement}
 use Rattle.party.proofs.prefix_length.Tie as tie
 
 -- past the let-else: what holds of the accepted scheme
-scheme_of_lem : (c : tie.After-known-told)
-    → let a = c.before.before.before.before.before.before.args in
-    SchemeIs c.before.answer.given.0.0 a.n a.r a.z a.counts.now
-scheme_of_lem c = accepted-scheme c.before.before.before.check.ensures c.before.answer.given.1
+scheme_of_lem : (c : tie.In-Accepted)
+    → let a = c.args in
+    SchemeIs c.in-Accepted.s a.n a.r a.z a.counts.now
+scheme_of_lem c = accepted-scheme c.check-answer.ensures c.in-Accepted.is
 
 -- what is tested for refusal 6
-count-test : (c : tie.After-is-count)
-    → let a = c.before.before.before.before.before.before.before.args in
-    not (occurs a.d a.counts.now) ≡ not c.is-count.result
-count-test c = ap not (sym c.is-count.ensures)
+count-test : (c : tie.After-is_count-counted)
+    → let a = c.args in
+    not (occurs a.d a.counts.now) ≡ not c.is_count-counted.result
+count-test c = ap not (sym c.is_count-counted.ensures)
 
-pub prefix-length-spec : {M : Type 1} → statement M
+pub prefix_length_spec : {M : Type 1} → statement M
 unfolding prefix_answer prefix_refusal
-prefix-length-spec =
+prefix_length_spec =
     tie.close
     (tie.spec
     (λ c κs. search rules)
     (λ c. search rules)
     (λ c. search rules)
     (λ c κs. search rules)
-    (λ c. answers (stop_scheme _ _ _ _ c.before.before.before.check.ensures c.before.enum_told.given.1 c.refusal.ensures))
+    (λ c. answers (stop_scheme _ _ _ _ c.check-answer.ensures c.in_default.is c.refusal.ensures))
     (λ c κs. search rules)
-    (λ c. answers (pass (scheme_of_lem c.before.before).passed (stop_over c.if1.true)))
-    (λ c κs. search rules)
-    (λ c.
-    let b = c.before in
-    let e = b.before in
-    let is = scheme_of_lem e.before.before in
-    omega (arith, share_small _ _ is _ (blocks_few _ _ is _ _ b.block-count.ensures e.if1.false)))
-    (λ c.
-    let e = c.before.before.before in
-    let k = e.before in
-    answers (pass (scheme_of_lem k.before).passed (pass_within 5 e.if1.false (stop_true (count-test k ∙ c.if2.true)))))
-    (λ c.
-    let f = c.before in
-    let b = f.before.before in
-    let e = b.before in
-    let s = scheme_of_lem e.before.before in
-    let bytes = share_length _ _ s _ _ b.block-count.ensures in
-    answers (pass s.passed (pass_within 5 e.if1.false (pass_false 6 (count-test e.before ∙ f.if2.false) (stop_other (λ q. c.if3.true (q ∙ sym bytes)))))))
+    (λ c. answers (pass (scheme_of_lem c.before.before).passed (stop_over c.if-message_length-gt-MAX_MESSAGE.true)))
     (λ c κs. search rules)
     (λ c.
-    let b = c.before.before.before.before in
-    let e = b.before in
-    let is = scheme_of_lem e.before.before in
-    omega (arith, prefix_small _ _ is _ (blocks_few _ _ is _ _ b.block-count.ensures e.if1.false) _ _ _ c.rows_of-count.ensures))
+    let is = scheme_of_lem c.before.before.before.before in
+    omega (arith, share_small _ _ is _ (blocks_few _ _ is _ _ c.block_count-blocks.ensures c.if-message_length-gt-MAX_MESSAGE.false)))
     (λ c.
-    let f = c.before.before in
-    let b = f.before.before in
-    let e = b.before in
-    let s = scheme_of_lem e.before.before in
-    let bytes = c.before.if3.false ∙ share_length _ _ s _ _ b.block-count.ensures in
-    rw (prefix_length_is _ _ s _ _ _ _ b.block-count.ensures c.rows_of-count.ensures)
-    (answers (pass s.passed (pass_within 5 e.if1.false (pass_false 6 (count-test e.before ∙ f.if2.false) (pass_same 9 bytes done)))))))
+    answers (pass (scheme_of_lem c.before.before.before.before.before).passed (pass_within 5 c.if-message_length-gt-MAX_MESSAGE.false (stop_true (count-test c.before.before.before.before ∙ (ap not c.if-not-counted.true))))))
+    (λ c.
+    let s = scheme_of_lem c.before.before.before.before.before.before in
+    let bytes = share_length _ _ s _ _ c.block_count-blocks.ensures in
+    answers (pass s.passed (pass_within 5 c.if-message_length-gt-MAX_MESSAGE.false (pass_false 6 (count-test c.before.before.before.before.before ∙ (ap not c.if-not-counted.false)) (stop_other (λ q. c.if-share-share_bytes.true (q ∙ sym bytes)))))))
+    (λ c κs. search rules)
+    (λ c.
+    let is = scheme_of_lem c.before.before.before.before.before.before.before in
+    omega (arith, prefix_small _ _ is _ (blocks_few _ _ is _ _ c.block_count-blocks.ensures c.if-message_length-gt-MAX_MESSAGE.false) _ _ _ c.rows_of_count.ensures))
+    (λ c.
+    let s = scheme_of_lem c.before.before.before.before.before.before.before in
+    let bytes = c.if-share-share_bytes.false ∙ share_length _ _ s _ _ c.block_count-blocks.ensures in
+    rw (prefix_length_is _ _ s _ _ _ _ c.block_count-blocks.ensures c.rows_of_count.ensures)
+    (answers (pass s.passed (pass_within 5 c.if-message_length-gt-MAX_MESSAGE.false (pass_false 6 (count-test c.before.before.before.before.before.before ∙ (ap not c.if-not-counted.false)) (pass_same 9 bytes done)))))))

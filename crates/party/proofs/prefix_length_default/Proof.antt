@@ -5,5 +5,5 @@ use borrow.Author.Rules.{rules}
 use Rattle.party.proofs.prefix_length_default.Statement.{statement}
 use Rattle.party.proofs.prefix_length_default.Tie as tie
 
-pub prefix-length-default-spec : {M : Type 1} → statement M
-prefix-length-default-spec = tie.close (tie.spec (λ c. search rules) (λ c κs. search rules) (λ c. c.prefix-length.ensures))
+pub prefix_length_default_spec : {M : Type 1} → statement M
+prefix_length_default_spec = tie.close (tie.spec (λ c. search rules) (λ c κs. search rules) (λ c. c.prefix_length.ensures))

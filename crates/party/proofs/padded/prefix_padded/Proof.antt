@@ -9,24 +9,20 @@ use borrow.Author.Rules.{rules}
 use Rattle.party.proofs.padded.prefix_padded.Statement.{statement}
 use Rattle.party.proofs.padded.prefix_padded.Tie as tie
 
-pub prefix-padded-spec : {M : Type 1} → statement M
-prefix-padded-spec =
+pub prefix_padded_spec : {M : Type 1} → statement M
+prefix_padded_spec =
     tie.close
     (tie.spec
     (λ c κs. search rules)
     (λ c. search rules)
     (λ c. search rules)
-    (λ c. sym (length-take-le _ c.before.before.before.before.before.before.args.share.now (search rules)))
-    (λ c. (padded_none _ _ _ _ c.before.before.before.prefix-padded-length.ensures c.before.enum_told.given.1, refl))
+    (λ c. sym (length-take-le _ c.args.share.now (search rules)))
+    (λ c. (padded_none _ _ _ _ c.prefix_padded_length-answer.ensures c.in_default.is, refl))
     (λ c.
-    let a = c.before.before in
-    let call = a.before.before in
-    let x = call.before.before.before.args in
+    let x = c.args in
     let p = parameters x.n x.r x.z x.counts.now in
-    padded_long p _ x.share.now _ call.prefix-padded-length.ensures a.answer.given.0.0 a.answer.given.1)
+    padded_long p _ x.share.now _ c.prefix_padded_length-answer.ensures c.in-Value.bytes c.in-Value.is)
     (λ c.
-    let a = c.before.before in
-    let call = a.before.before in
-    let x = call.before.before.before.args in
+    let x = c.args in
     let p = parameters x.n x.r x.z x.counts.now in
-    (padded_is p _ x.share.now _ call.prefix-padded-length.ensures a.answer.given.0.0 a.answer.given.1, refl)))
+    (padded_is p _ x.share.now _ c.prefix_padded_length-answer.ensures c.in-Value.bytes c.in-Value.is, refl)))

@@ -5,5 +5,5 @@ use borrow.Author.Rules.{rules}
 use Rattle.party.proofs.padded.prefix_padded_default.Statement.{statement}
 use Rattle.party.proofs.padded.prefix_padded_default.Tie as tie
 
-pub prefix-padded-default-spec : {M : Type 1} → statement M
-prefix-padded-default-spec = tie.close (tie.spec (λ c. search rules) (λ c κs. search rules) (λ c. c.prefix-padded.ensures))
+pub prefix_padded_default_spec : {M : Type 1} → statement M
+prefix_padded_default_spec = tie.close (tie.spec (λ c. search rules) (λ c κs. search rules) (λ c. c.prefix_padded.ensures))

@@ -19,59 +19,51 @@ use Rattle.party.proofs.padded.prefix_padded_length.Statement.{statement}
 use Rattle.party.proofs.padded.prefix_padded_length.Tie as tie
 
 -- past the let-else: the entry, and what holds of the accepted scheme
-abbrev start : tie.After-known-told → tie.Start
-start c = c.before.before.before.before.before.before
+abbrev start : tie.In-Accepted → tie.Start
+start c = c.before.before.before.before
 
-scheme_of_lem : (c : tie.After-known-told) → let a = (start c).args in SchemeIs c.before.answer.given.0.0 a.n a.r a.z a.counts.now
-scheme_of_lem c = accepted-scheme c.before.before.before.check.ensures c.before.answer.given.1
+scheme_of_lem : (c : tie.In-Accepted) → let a = (start c).args in SchemeIs c.in-Accepted.s a.n a.r a.z a.counts.now
+scheme_of_lem c = accepted-scheme c.check-answer.ensures c.in-Accepted.is
 
 -- what is tested for refusal 6
-count-test : (c : tie.After-is-count) → let a = (start c.before).args in not (occurs a.d a.counts.now) ≡ not c.is-count.result
-count-test c = ap not (sym c.is-count.ensures)
+count-test : (c : tie.After-is_count-counted) → let a = (start c.before).args in not (occurs a.d a.counts.now) ≡ not c.is_count-counted.result
+count-test c = ap not (sym c.is_count-counted.ensures)
 
 -- the blocks that the share's length tells
-held_is : (c : tie.After-blocks-held)
+held_is : (c : tie.After-blocks_held-blocks)
     → let k = c.before.before.before in
-    let s = k.before.answer.given.0.0 in
-    c.blocks-held.result ≡ blocks_held (most_padded s.block) s.rows (length (start k).args.share.now)
-held_is c = rw (← c.before.most-blocks.ensures) c.blocks-held.ensures
+    let s = k.in-Accepted.s in
+    c.blocks_held-blocks.result ≡ blocks_held (most_padded s.block) s.rows (length (start k).args.share.now)
+held_is c = rw (← c.most_blocks-most.ensures) c.blocks_held-blocks.ensures
 
 -- past the test for 9
-some : (c : tie.Else2) → 0 < c.before.before.blocks-held.result
-some c = omega (arith, c.if2.false)
+some : (c : tie.Else-blocks-eq0) → 0 < c.blocks_held-blocks.result
+some c = omega (arith, c.if-blocks-eq0.false)
 
-pub prefix-padded-length-spec : {M : Type 1} → statement M
+pub prefix_padded_length_spec : {M : Type 1} → statement M
 unfolding prefix_padded_answer prefix_padded_refusal
-prefix-padded-length-spec =
+prefix_padded_length_spec =
     tie.close
     (tie.spec
     (λ c κs. search rules)
     (λ c. search rules)
     (λ c. search rules)
     (λ c κs. search rules)
-    (λ c. answers (stop_scheme _ _ _ _ c.before.before.before.check.ensures c.before.enum_told.given.1 c.refusal.ensures))
+    (λ c. answers (stop_scheme _ _ _ _ c.check-answer.ensures c.in_default.is c.refusal.ensures))
     (λ c κs. search rules)
     (λ c κs. search rules)
     (λ c κs. search rules)
     (λ c.
-    let k = c.before.before.before in
-    answers (pass (scheme_of_lem k.before).passed (stop_true (count-test k ∙ c.if1.true))))
+    answers (pass (scheme_of_lem c.before.before.before.before).passed (stop_true (count-test c.before.before.before ∙ (ap not c.if-not-counted.true)))))
     (λ c.
-    let b = c.before.before in
-    let k = b.before.before in
-    let is = scheme_of_lem k.before in
-    answers (pass is.passed (pass_false 6 (count-test k ∙ c.before.if1.false) (stop_true (eq-eqb _ 0 (sym (kept_is _ _ is _ _ (held_is b)) ∙ c.if2.true))))))
+    let is = scheme_of_lem c.before.before.before.before.before in
+    answers (pass is.passed (pass_false 6 (count-test c.before.before.before.before ∙ (ap not c.if-not-counted.false)) (stop_true (eq-eqb _ 0 (sym (kept_is _ _ is _ _ (held_is c.before.before)) ∙ c.if-blocks-eq0.true))))))
     (λ c κs. search rules)
     (λ c.
-    let e = c.before in
-    let b = e.before.before in
-    let is = scheme_of_lem b.before.before.before in
-    omega (arith, prefix_small _ _ is _ (kept_few _ _ is _ _ (held_is b) (some e)) _ _ _ c.rows_of-count.ensures))
+    let is = scheme_of_lem c.before.before.before.before.before.before in
+    omega (arith, prefix_small _ _ is _ (kept_few _ _ is _ _ (held_is c.before.before.before) (some c.before)) _ _ _ c.rows_of_count.ensures))
     (λ c.
-    let e = c.before in
-    let b = e.before.before in
-    let k = b.before.before in
-    let is = scheme_of_lem k.before in
-    let same = kept_is _ _ is _ _ (held_is b) in
-    rw (padded_length_is _ _ is _ _ (held_is b) _ _ c.rows_of-count.ensures)
-    (answers (pass is.passed (pass_false 6 (count-test k ∙ e.before.if1.false) (pass_false 9 (ne_eqb _ 0 (λ q. e.if2.false (same ∙ q))) done))))))
+    let is = scheme_of_lem c.before.before.before.before.before.before in
+    let same = kept_is _ _ is _ _ (held_is c.before.before.before) in
+    rw (padded_length_is _ _ is _ _ (held_is c.before.before.before) _ _ c.rows_of_count.ensures)
+    (answers (pass is.passed (pass_false 6 (count-test c.before.before.before.before.before ∙ (ap not c.if-not-counted.false)) (pass_false 9 (ne_eqb _ 0 (λ q. c.if-blocks-eq0.false (same ∙ q))) done))))))
