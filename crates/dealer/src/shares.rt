@@ -18,7 +18,7 @@ use scheme::Scheme;
 
 // The byte right after the message, 0 or the marker of its end, and where it stands: in which block, and at which place of
 // it. All after it is 0.
-#[derive(Drop)]
+#[derive(Clone, Copy)]
 struct Follower {
     block: usize,
     place: usize,

@@ -55,7 +55,7 @@ pub(crate) fn known(
 
 // The sizes of what is read: the keys of a row, the number of parties, the block length, the blocks, the
 // bytes of a prefix, and the place of the prefix that is passed over, which is past them where none is.
-#[derive(Drop)]
+#[derive(Clone, Copy)]
 pub(crate) struct Sizes {
     pub(crate) z: usize,
     pub(crate) d: usize,

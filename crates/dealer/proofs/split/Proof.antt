@@ -10,34 +10,31 @@ use Rattle.dealer.proofs.split.Statement.{statement}
 use Rattle.dealer.proofs.split.Tie as tie
 
 -- past the let-else: the entry, and what holds of the accepted scheme
-abbrev start : tie.After-known-told → tie.Start
-start c = c.before.before.before.before.before.before.before.before
+abbrev start : tie.In-Accepted → tie.Start
+start c = c.before.before.before.before.before.before
 
-scheme_of_lem : (c : tie.After-known-told)
+scheme_of_lem : (c : tie.In-Accepted)
     → let a = (start c).args in
-    SchemeIs c.before.answer.given.0.0 a.n a.r a.z a.counts.now
-scheme_of_lem c = accepted-scheme c.before.before.before.check.ensures c.before.answer.given.1
+    SchemeIs c.in-Accepted.s a.n a.r a.z a.counts.now
+scheme_of_lem c = accepted-scheme c.check-answer.ensures c.in-Accepted.is
 
-pub split-spec : {M : Type 1} → statement M
+pub split_spec : {M : Type 1} → statement M
 unfolding split_refusal split_answer split_output
-split-spec =
+split_spec =
     tie.close
     (tie.spec
     (λ c κs. search rules)
     (λ c. search rules)
     (λ c. search rules)
     (λ c κs. search rules)
-    (λ c. refuses _ (stop_scheme _ _ _ _ c.before.before.before.check.ensures c.before.enum_told.given.1 c.refusal.ensures))
-    (λ c. refuses _ (pass (scheme_of_lem c.before).passed (stop_over c.if1.true)))
+    (λ c. refuses _ (stop_scheme _ _ _ _ c.check-answer.ensures c.in_default.is c.refusal.ensures))
+    (λ c. refuses _ (pass (scheme_of_lem c.before).passed (stop_over c.if-message-gt-MAX_MESSAGE.true)))
     (λ c κs. search rules)
     (λ c κs.
-    let b = c.before in
-    let is = scheme_of_lem b.before.before in
-    (scheme_own _ _ _ _ _ is, blocks_few _ _ is _ _ b.block-count.ensures b.before.if1.false))
+    let is = scheme_of_lem c.before.before.before in
+    (scheme_own _ _ _ _ _ is, blocks_few _ _ is _ _ c.block_count-blocks.ensures c.if-message-gt-MAX_MESSAGE.false))
     (λ c. search rules)
     (λ c.
-    let d = c.before.before in
-    let b = d.before.before in
-    let is = scheme_of_lem b.before.before in
-    let x = (start b.before.before).args in
-    splits _ _ is x.message.now x.keys.now x.out.now b.before.if1.false _ d.deal.result _ b.block-count.ensures d.deal.ensures))
+    let is = scheme_of_lem c.before.before.before.before.before.before in
+    let x = (start c.before.before.before.before.before.before).args in
+    splits _ _ is x.message.now x.keys.now x.out.now c.if-message-gt-MAX_MESSAGE.false _ c.deal.result _ c.block_count-blocks.ensures c.deal.ensures))

@@ -5,5 +5,5 @@ use borrow.Author.Rules.{rules}
 use Rattle.dealer.proofs.split_default.Statement.{statement}
 use Rattle.dealer.proofs.split_default.Tie as tie
 
-pub split-default-spec : {M : Type 1} → statement M
-split-default-spec = tie.close (tie.spec (λ c. search rules) (λ c κs. search rules) (λ c. search rules) (λ c. c.before.before.split.ensures))
+pub split_default_spec : {M : Type 1} → statement M
+split_default_spec = tie.close (tie.spec (λ c. search rules) (λ c κs. search rules) (λ c. search rules) (λ c. c.split.ensures))

@@ -5,5 +5,5 @@ use borrow.Author.Rules.{rules}
 use Rattle.dealer.proofs.padded.split_padded_default.Statement.{statement}
 use Rattle.dealer.proofs.padded.split_padded_default.Tie as tie
 
-pub split-padded-default-spec : {M : Type 1} → statement M
-split-padded-default-spec = tie.close (tie.spec (λ c. search rules) (λ c κs. search rules) (λ c. search rules) (λ c. c.before.before.split-padded.ensures))
+pub split_padded_default_spec : {M : Type 1} → statement M
+split_padded_default_spec = tie.close (tie.spec (λ c. search rules) (λ c κs. search rules) (λ c. search rules) (λ c. c.split_padded.ensures))

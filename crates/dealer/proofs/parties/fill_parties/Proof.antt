@@ -15,56 +15,53 @@ use Rattle.dealer.proofs.Filled.{filled_none, filled_more}
 use Rattle.dealer.proofs.parties.fill_parties.Statement.{statement}
 use Rattle.dealer.proofs.parties.fill_parties.Tie as tie
 
-abbrev invariant-loop : tie.invariant-loop
-invariant-loop columns d points share q many out₀ a₀ out a =
+abbrev invariant-loop-a : tie.invariant-loop-a
+invariant-loop-a columns d points share q many out₀ a₀ out a =
     (a ≤ length points) × Filled share q many (λ s k. get_or (values_of (get_or points s 0) (flat_columns d columns)) k 0) a out₀ out
 
-abbrev decreases-loop : tie.decreases-loop
-decreases-loop columns d points share q many out₀ a₀ out a = length points - a
+abbrev decreases-loop-a : tie.decreases-loop-a
+decreases-loop-a columns d points share q many out₀ a₀ out a = length points - a
 
 -- the entry
-abbrev start : tie.In-loop invariant-loop decreases-loop → tie.Start invariant-loop decreases-loop
+abbrev start : tie.In-loop-a invariant-loop-a decreases-loop-a → tie.Start invariant-loop-a decreases-loop-a
 start c = c.before.before.before.before
 
 -- share a lies inside the output
-room : (c : tie.In-loop invariant-loop decreases-loop)
+room : (c : tie.In-loop-a invariant-loop-a decreases-loop-a)
     → let a = (start c).args in
-    c.before.loop.a * a.share + a.share ≤ length c.before.loop.out
+    c.loop-a.a * a.share + a.share ≤ length c.loop-a.out
 room c =
     let a = (start c).args in
-    omega (arith, row_room c.before.loop.a (length a.points.now) a.share c.loop-test.true, c.before.loop.invariant.1.long)
+    omega (arith, row_room c.loop-a.a (length a.points.now) a.share c.loop-a-test.true, c.loop-a.invariant.1.long)
 
 -- and so does the part of it that is lent, which has `many` bytes
-inside : (c : tie.In-loop invariant-loop decreases-loop)
+inside : (c : tie.In-loop-a invariant-loop-a decreases-loop-a)
     → let a = (start c).args in
-    c.before.loop.a * a.share + a.q + a.many ≤ length c.before.loop.out
+    c.loop-a.a * a.share + a.q + a.many ≤ length c.loop-a.out
 inside c = omega (arith, room c)
 
-loop-again : tie.Need-loop-preserved invariant-loop decreases-loop
+loop-again : tie.Need-loop-a-preserved invariant-loop-a decreases-loop-a
 loop-again c =
-    let p = c.before.before in
-    let v = p.before.before in
-    let i = v.before.before in
-    let l = i.before.loop in
-    let s = start i in
+    let l = c.loop-a in
+    let s = start c.before.before.before.before.before.before in
     let a = s.args in
     let at = l.a * a.share + a.q in
-    let y = p.put.new.1.0 in
+    let y = c.put.new.out in
     let part = take (at + a.many - at) (drop at l.out) in
-    let lent : length part ≡ a.many = part_length at a.many l.out (inside i) in
+    let lent : length part ≡ a.many = part_length at a.many l.out (inside c.before.before.before.before.before.before) in
     let x = get_or a.points.now l.a 0 in
     let coefficients = flat_columns a.d a.columns.now in
-    let values : v.flat-values.result ≡ values_of x coefficients = v.flat-values.ensures in (
+    let values : c.flat_values-values.result ≡ values_of x coefficients = c.flat_values-values.ensures in (
       omega arith,
-      filled_more (length a.points.now) y l.invariant.1 i.loop-test.true s.pre.1 s.pre.2 refl
-          (put-length y v.flat-values.result part a.many x coefficients p.put.ensures lent values s.pre.0)
-          (put-entry y v.flat-values.result part a.many x coefficients p.put.ensures lent values),
+      filled_more (length a.points.now) y l.invariant.1 c.loop-a-test.true s.requires.1 s.requires.2 refl
+          (put-length y c.flat_values-values.result part a.many x coefficients c.put.ensures lent values s.requires.0)
+          (put-entry y c.flat_values-values.result part a.many x coefficients c.put.ensures lent values),
     )
 
-pub fill-parties-spec : {M : Type 1} → statement M
-fill-parties-spec =
+pub fill_parties_spec : {M : Type 1} → statement M
+fill_parties_spec =
     tie.close
-    (tie.spec invariant-loop decreases-loop
+    (tie.spec invariant-loop-a decreases-loop-a
     (λ c. (search rules, filled_none _ _ _ _ _))
     (λ c. search rules)
     (λ c κs. search rules)
@@ -75,14 +72,13 @@ fill-parties-spec =
     (λ c. search rules)
     (λ c. omega (arith, inside c.before.before))
     (λ c κs.
-    let i = c.before.before.before in
-    let a = (start i).args in
-    rw (part_length (i.before.loop.a * a.share + a.q) a.many i.before.loop.out (inside i)) (start i).requires.0)
+    let a = (start c.before.before.before).args in
+    rw (part_length (c.loop-a.a * a.share + a.q) a.many c.loop-a.out (inside c.before.before.before)) (start c.before.before.before).requires.0)
     (λ c. search rules)
     (λ c. search rules)
     loop-again
-    (λ c. c.before.loop.invariant.1.long)
+    (λ c. c.loop-a.invariant.1.long)
     (λ c.
-    let l = c.before.loop in
-    let z : l.a ≡ length c.before.before.before.before.args.points.now = omega arith in
+    let l = c.loop-a in
+    let z : l.a ≡ length c.args.points.now = omega arith in
     rw z at l.invariant.1))

@@ -13,41 +13,41 @@ use Rattle.dealer.proofs.shares.column_of.Statement.{statement}
 use Rattle.dealer.proofs.shares.column_of.Tie as tie
 
 -- the entry
-abbrev start : tie.After-wide → tie.Start
+abbrev start : tie.After-wide-z → tie.Start
 start c = c.before.before.before.before
 
 -- the places, in products of small numbers
-module _ (c : tie.After-wide) where
-  low : c.wide.result ≤ max_parties
-  low = omega (arith, c.wide.ensures, (start c).requires.2)
+module _ (c : tie.After-wide-z) where
+  low : c.wide-z.result ≤ max_parties
+  low = omega (arith, c.wide-z.ensures, (start c).requires.2)
 
   rows_before : (start c).args.t * (start c).args.s.rows ≤ max_blocks * max_block
   rows_before = mul-le-mul (start c).requires.3 (start c).requires.1
 
-  keys-before : ((start c).args.t * (start c).args.s.rows + (start c).args.j) * c.wide.result ≤ (max_blocks * max_block + max_block) * max_parties
+  keys-before : ((start c).args.t * (start c).args.s.rows + (start c).args.j) * c.wide-z.result ≤ (max_blocks * max_block + max_block) * max_parties
   keys-before =
       let h : (start c).args.t * (start c).args.s.rows + (start c).args.j ≤ max_blocks * max_block + max_block = omega (arith, rows_before, (start c).requires.4, (start c).requires.1) in
       mul-le-mul h low
 
-  keys-apart : (start c).args.s.rows * c.wide.result ≤ max_block * max_parties
+  keys-apart : (start c).args.s.rows * c.wide-z.result ≤ max_block * max_parties
   keys-apart = mul-le-mul (start c).requires.1 low
 
   bytes-before : (start c).args.t * (start c).args.s.block ≤ max_blocks * max_block
   bytes-before = mul-le-mul (start c).requires.3 (start c).requires.0
 
 -- from z up
-from : (c : tie.Else1) → (start c.before).args.s.z ≤ (start c.before).args.e
-from c = omega (arith, c.before.wide.ensures, c.if1.false)
+from : (c : tie.Else-e-z) → (start c.before).args.s.z ≤ (start c.before).args.e
+from c = omega (arith, c.wide-z.ensures, c.if-e-z.false)
 
 -- the place lies in the block
-inside : (c : tie.Else1) → (start c.before).args.place < max_block
+inside : (c : tie.Else-e-z) → (start c.before).args.place < max_block
 inside c =
     let p = (start c.before).requires in
     omega (arith, p.0, p.6 (from c))
 
-pub column-of-spec : {M : Type 1} → statement M
+pub column_of_spec : {M : Type 1} → statement M
 unfolding column
-column-of-spec =
+column_of_spec =
     tie.close
     (tie.spec
     (λ c κs. search rules)
@@ -59,21 +59,14 @@ column-of-spec =
     (λ c κs. search rules)
     (λ c. search rules)
     (λ c ds o.
-    let i = c.before.before.before.before in
-    let w = i.before in
-    rw (← w.wide.ensures, lt-ltb (start w).args.e w.wide.result i.if1.true) (rw (start w).requires.7 at c.before.before.gather-into.ensures))
+    rw (← c.wide-z.ensures, lt-ltb (start c.before.before.before.before.before).args.e c.wide-z.result c.if-e-z.true) (rw (start c.before.before.before.before.before).requires.7 at c.gather_into.ensures))
     (λ c. omega (arith, bytes-before c.before))
     (λ c. omega (arith, bytes-before c.before, inside c))
     (λ c κs. search rules)
     (λ c κs.
-    let g = c.before.before.before in
-    g.gather-into2.auto.1.1.1.0 ∙ (start g.before.before.before).requires.7)
+    c.gather_into-2.auto.out ∙ (start c.before.before.before.before.before.before).requires.7)
     (λ c. search rules)
     (λ c ds o.
-    let k = c.before.before in
-    let g = k.before.before.before.before in
-    let i = g.before.before in
-    let w = i.before in
-    let there = (start w).requires.8 in
-    rw (← o (from i), ← w.wide.ensures, le-ltb (start w).args.e w.wide.result i.if1.false)
-    (k.mark.ensures _ _ there.length_is there.inside ((start w).requires.6 (from i)) (rw (start w).requires.7 at g.gather-into2.ensures))))
+    let there = (start c.before.before.before.before.before.before.before.before.before).requires.8 in
+    rw (← o (from c.before.before.before.before.before.before.before.before), ← c.wide-z.ensures, le-ltb (start c.before.before.before.before.before.before.before.before.before).args.e c.wide-z.result c.if-e-z.false)
+    (c.mark.ensures _ _ there.length_is there.inside ((start c.before.before.before.before.before.before.before.before.before).requires.6 (from c.before.before.before.before.before.before.before.before)) (rw (start c.before.before.before.before.before.before.before.before.before).requires.7 at c.gather_into-2.ensures))))

@@ -43,13 +43,13 @@ abbrev decreases-row : tie.decreases-row
 decreases-row s counts blocks message after keys out₀ n rows share points end places₀ columns₀ q₀ j₀ out places columns q j = rows - j
 
 -- the entry; and of a batch, its row, the parties' points and the entry
-abbrev start : tie.After-wide invariant-batch decreases-batch invariant-row decreases-row → tie.Start invariant-batch decreases-batch invariant-row decreases-row
+abbrev start : tie.After-wide-n invariant-batch decreases-batch invariant-row decreases-row → tie.Start invariant-batch decreases-batch invariant-row decreases-row
 start c = c.before.before.before.before.before
 
 abbrev row_of : tie.In-batch invariant-batch decreases-batch invariant-row decreases-row → tie.In-row invariant-batch decreases-batch invariant-row decreases-row
 row_of c = c.before.before.before.before.before
 
-abbrev parties_of : tie.In-batch invariant-batch decreases-batch invariant-row decreases-row → tie.After-party-points invariant-batch decreases-batch invariant-row decreases-row
+abbrev parties_of : tie.In-batch invariant-batch decreases-batch invariant-row decreases-row → tie.After-party_points-points invariant-batch decreases-batch invariant-row decreases-row
 parties_of c = (row_of c).before.before.before.before
 
 abbrev first : tie.In-batch invariant-batch decreases-batch invariant-row decreases-row → tie.Start invariant-batch decreases-batch invariant-row decreases-row
@@ -71,59 +71,54 @@ module _ (s : tie.Start invariant-batch decreases-batch invariant-row decreases-
   known = facts_of s.args.s s.args.counts.now s.requires.0
 
   few_rows : s.args.s.rows ≤ max_block
-  few_rows = omega (arith, rows_high s.args.s s.args.counts.now s.pre.0, known.limit)
+  few_rows = omega (arith, rows_high s.args.s s.args.counts.now s.requires.0, known.limit)
 
   small : s.args.s.rows * s.args.blocks ≤ max_block * max_blocks
-  small = mul-le-mul few_rows s.pre.1
+  small = mul-le-mul few_rows s.requires.1
 
 -- there are at most 16 parties, and the first entries of the array are their points
-module _ (c : tie.After-party-points invariant-batch decreases-batch invariant-row decreases-row) where
-  few_parties : c.before.wide.result ≤ side
-  few_parties = omega (arith, c.before.wide.ensures, (known (start c.before)).sizes)
+module _ (c : tie.After-party_points-points invariant-batch decreases-batch invariant-row decreases-row) where
+  few_parties : c.wide-n.result ≤ side
+  few_parties = omega (arith, c.wide-n.ensures, (known (start c.before)).sizes)
 
-  points_long : length (take c.before.wide.result c.party-points.result) ≡ c.before.wide.result
-  points_long = party_points_long (scheme (start c.before)) _ _ (c.party-points.ensures _) few_parties
+  points_long : length (take c.wide-n.result c.party_points-points.result) ≡ c.wide-n.result
+  points_long = party_points_long (scheme (start c.before)) _ _ (c.party_points-points.ensures _) few_parties
 
-  point_at_lem : (a : ℕ) → a < c.before.wide.result
-      → get_or (take c.before.wide.result c.party-points.result) a 0 ≡ point (scheme (start c.before)) (a + 1)
-  point_at_lem = party_point (scheme (start c.before)) _ _ (c.party-points.ensures _) few_parties
+  point_at_lem : (a : ℕ) → a < c.wide-n.result
+      → get_or (take c.wide-n.result c.party_points-points.result) a 0 ≡ point (scheme (start c.before)) (a + 1)
+  point_at_lem = party_point (scheme (start c.before)) _ _ (c.party_points-points.ensures _) few_parties
 
 -- the places are the origins of the row's coefficients, of which there are at most 16
-module _ (c : tie.After-row-origins invariant-batch decreases-batch invariant-row decreases-row) where
+module _ (c : tie.After-row_origins-d invariant-batch decreases-batch invariant-row decreases-row) where
   origins_of : let r = c.before.before in let a = (start r.before.before.before.before.before).args in
-      RowOrigins a.s.block a.s.z a.counts.now r.before.row.j c.row_origins.result c.row_origins.new.1.1.1.1.0
+      RowOrigins a.s.block a.s.z a.counts.now r.row.j c.row_origins-d.result c.row_origins-d.new.places
   origins_of =
-      let r = c.before.before in
-      let s = start r.before.before.before.before.before in
-      rw (c.row_origins.ensures.1, c.row_origins.ensures.0)
-      (row_origins s.args.s s.args.counts.now s.pre.0 r.before.row.j r.row-test.true r.before.row.places r.before.row.invariant.2)
+      rw (c.row_origins-d.ensures.1, c.row_origins-d.ensures.0)
+      (row_origins (start c.before.before.before.before.before.before.before).args.s (start c.before.before.before.before.before.before.before).args.counts.now (start c.before.before.before.before.before.before.before).requires.0 c.row.j c.row-test.true c.row.places c.row.invariant.2)
 
-  few : c.row_origins.result ≤ side
+  few : c.row_origins-d.result ≤ side
   few =
-      let r = c.before.before in
-      let s = start r.before.before.before.before.before in
-      omega (arith, c.row_origins.ensures.0, row_count_high s.args.s s.args.counts.now s.pre.0 r.before.row.j r.row-test.true)
+      omega (arith, c.row_origins-d.ensures.0, row_count_high (start c.before.before.before.before.before.before.before).args.s (start c.before.before.before.before.before.before.before).args.counts.now (start c.before.before.before.before.before.before.before).requires.0 c.row.j c.row-test.true)
 
 -- a batch has at most 64 blocks, of those that are left
-batch : (c : tie.After-batch-of invariant-batch decreases-batch invariant-row decreases-row)
-    → let left = (first c.before).args.blocks - c.before.before.batch.t in
-    (c.batch-of.result ≤ lanes) × (c.batch-of.result ≤ left) × (0 < left → 0 < c.batch-of.result)
-batch c = batch_fits _ _ c.batch-of.ensures
+batch : (c : tie.After-batch_of-many invariant-batch decreases-batch invariant-row decreases-row)
+    → let left = (first c.before).args.blocks - c.batch.t in
+    (c.batch_of-many.result ≤ lanes) × (c.batch_of-many.result ≤ left) × (0 < left → 0 < c.batch_of-many.result)
+batch c = batch_fits _ _ c.batch_of-many.ensures
 
 -- a batch stays in its row, and so in the share
-within : (c : tie.After-batch-of invariant-batch decreases-batch invariant-row decreases-row)
-    → c.before.before.batch.q + c.batch-of.result ≤ (first c.before).args.s.rows * (first c.before).args.blocks
+within : (c : tie.After-batch_of-many invariant-batch decreases-batch invariant-row decreases-row)
+    → c.batch.q + c.batch_of-many.result ≤ (first c.before).args.s.rows * (first c.before).args.blocks
 within c =
     let a = (first c.before).args in
-    let r = row_of c.before in
-    omega (arith, c.before.before.batch.invariant, (batch c).1, row_room r.before.row.j a.s.rows a.blocks r.row-test.taken)
+    omega (arith, c.batch.invariant, (batch c).1, row_room (row_of c.before).row.j a.s.rows a.blocks (row_of c.before).row-test.true)
 
 -- at a batch's end, where its columns were written
-abbrev row_columns_of : tie.After-slice-known2 invariant-batch decreases-batch invariant-row decreases-row → tie.After-row-columns invariant-batch decreases-batch invariant-row decreases-row
+abbrev row_columns_of : tie.After-slice_known-in-batch-1 invariant-batch decreases-batch invariant-row decreases-row → tie.After-row_columns invariant-batch decreases-batch invariant-row decreases-row
 row_columns_of c = c.before.before.before.before.before.before.before
 
-pub fill-shares-spec : {M : Type 1} → statement M
-fill-shares-spec =
+pub fill_shares_spec : {M : Type 1} → statement M
+fill_shares_spec =
     tie.close
     (tie.spec invariant-batch decreases-batch invariant-row decreases-row
     (λ c κs. search rules)
@@ -132,72 +127,55 @@ fill-shares-spec =
     (λ c. (known (start c.before.before)).least.positive)
     (λ c. (known (start c.before.before.before)).least.positive)
     (λ c.
-    let s = start c.before.before.before in
-    (search rules, sym (zero-mul s.args.blocks), refl, length-replicate {A = ℕ} (side * lanes) 0, columns_none (rule s) _ _ _ (rw c.before.before.before.wide.ensures s.pre.2)))
-    (λ c. sym c.before.before.row.invariant.2)
+    (search rules, sym (zero-mul (start c.before.before.before).args.blocks), refl, length-replicate {A = ℕ} (side * lanes) 0, columns_none (rule (start c.before.before.before)) _ _ _ (rw c.wide-n.ensures (start c.before.before.before).requires.2)))
+    (λ c. sym c.row.invariant.2)
     (λ c κs. search rules)
     (λ c.
-    let r = c.before.before.before.before.row in
+    let r = c.row in
     (search rules, omega (arith, r.invariant.1), r.invariant.3, r.invariant.4))
     (λ c. search rules)
     (λ c κs. search rules)
-    (λ c. sym c.before.before.before.before.batch.invariant.2)
+    (λ c. sym c.batch.invariant.2)
     (λ c κs.
-    let i = c.before.before.before in
-    let s = first i in
-    let o = i.before.before.before in
-    let p = known s in
-    let origins = origins_of o in
-    (p.limit, few_rows s, omega (arith, p.sizes), omega arith, (row_of i).row-test.true, few o, i.before.batch.invariant.2, origins.long, origins.below, record { length_is = sym (div-add-mod' _ _); inside = mod-lt _ p.least.positive }))
+    let p = known (first c.before.before.before) in
+    let origins = origins_of c.before.before.before.before.before.before in
+    (p.limit, few_rows (first c.before.before.before), omega (arith, p.sizes), omega arith, (row_of c.before.before.before).row-test.true, few c.before.before.before.before.before.before, c.batch.invariant.2, origins.long, origins.below, record { length_is = sym (div-add-mod' _ _); inside = mod-lt _ p.least.positive }))
     (λ c. omega (arith, few_parties (parties_of c.before.before.before.before.before.before)))
     (λ c. sym (points_long (parties_of c.before.before.before.before.before.before.before)))
     (λ c κs.
-    let a = c.before.before.before.before.before.before.before in
-    let i = a.before in (
-      (batch a).0,
-      omega (arith, within a),
-      i.before.batch.invariant.3.long ∙ ap (λ (n : ℕ). n * ((first i).args.s.rows * (first i).args.blocks)) (sym (points_long (parties_of i))),
+    (
+      (batch c.before.before.before.before.before.before.before).0,
+      omega (arith, within c.before.before.before.before.before.before.before),
+      c.batch.invariant.3.long ∙ ap (λ (n : ℕ). n * ((first c.before.before.before.before.before.before.before.before).args.s.rows * (first c.before.before.before.before.before.before.before.before).args.blocks)) (sym (points_long (parties_of c.before.before.before.before.before.before.before.before))),
     ))
     (λ c.
-    let a = (row_columns_of c).before.before.before in
-    omega (arith, within a, small (first a.before)))
+    omega (arith, within (row_columns_of c).before.before.before, small (first (row_columns_of c).before.before.before.before)))
     (λ c.
-    let a = (row_columns_of c).before.before.before in
-    omega (arith, (batch a).1, (first a.before).pre.1))
+    omega (arith, (batch (row_columns_of c).before.before.before).1, (first (row_columns_of c).before.before.before.before).requires.1))
     (λ c.
-    let a = (row_columns_of c).before.before.before in
-    let h : 0 < a.batch-of.result = (batch a).2 (omega arith) in
+    let h : 0 < (row_columns_of c).batch_of-many.result = (batch (row_columns_of c).before.before.before).2 (omega arith) in
     omega arith)
     (λ c.
-    let f = c.before.before in
-    let o = row_columns_of c in
-    let a = o.before.before.before in
-    let i = a.before in
-    let l = i.before.batch in
-    let r = row_of i in
-    let g = i.before.before.before in
-    let x = (first i).args in (
-      omega (arith, (batch a).1),
-      omega (arith, l.inv.1),
-      o.row-columns.kept.1.1.1.1.1.1.1.1.0 ∙ l.inv.2,
-      filled_columns {f = rule (first i)} l.inv.3 (rw (points_long (parties_of i)) at f.fill-parties.ensures)
+    let l = (row_columns_of c).batch in
+    let x = (first (row_columns_of c).before.before.before.before).args in (
+      omega (arith, (batch (row_columns_of c).before.before.before).1),
+      omega (arith, l.invariant.1),
+      (row_columns_of c).row_columns.auto.columns ∙ l.invariant.2,
+      filled_columns {f = rule (first (row_columns_of c).before.before.before.before)} l.invariant.3 (rw (points_long (parties_of (row_columns_of c).before.before.before.before)) at c.fill_parties.ensures)
           (λ b k hb hk.
-          rw (point_at_lem (parties_of i) b hb)
-          (batch_byte x.s.block x.s.rows x.s.z x.counts.now (x.message.now ++ x.after ∷ []) x.keys.now x.blocks g.row_origins.result
-          r.before.row.j l.t l.q (point (scheme (first i)) (b + 1)) k (flat_columns g.row_origins.result o.row-columns.last.1.1.1.1.1.1.1.1.0)
-          (omega (arith, (batch a).0)) (omega (arith, (batch a).1)) l.inv.1 g.row_origins.ensures.0
-          (o.row-columns.ensures x.counts.now (origins_of g)))),
+          rw (point_at_lem (parties_of (row_columns_of c).before.before.before.before) b hb)
+          (batch_byte x.s.block x.s.rows x.s.z x.counts.now (x.message.now ++ x.after ∷ []) x.keys.now x.blocks (row_columns_of c).row_origins-d.result
+          (row_of (row_columns_of c).before.before.before.before).row.j l.t l.q (point (scheme (first (row_columns_of c).before.before.before.before)) (b + 1)) k (flat_columns (row_columns_of c).row_origins-d.result (row_columns_of c).row_columns.new.columns)
+          (omega (arith, (batch (row_columns_of c).before.before.before).0)) (omega (arith, (batch (row_columns_of c).before.before.before).1)) l.invariant.1 (row_columns_of c).row_origins-d.ensures.0
+          ((row_columns_of c).row_columns.ensures x.counts.now (origins_of (row_columns_of c).before.before.before.before.before.before.before)))),
     ))
     (λ c. search rules)
     (λ c. search rules)
-    (λ c. (search rules, search rules, (origins_of c.before.before.before).long, c.before.batch.invariant.2, c.before.batch.invariant.3))
+    (λ c. (search rules, search rules, (origins_of c.before.before.before).long, c.batch.invariant.2, c.batch.invariant.3))
     (λ c.
-    let w = c.before.before.before.before.before in
-    let s = start w in
-    c.before.row.invariant.4.long ∙ sym (rw w.wide.ensures s.pre.2))
+    c.row.invariant.4.long ∙ sym (rw c.wide-n.ensures (start c.before.before.before.before.before).requires.2))
     (λ c.
-    let w = c.before.before.before.before.before in
-    let x = (start w).args in
-    let h : c.before.row.j ≡ x.s.rows = omega arith in
-    columns_all {f = rule (start w)} c.before.row.invariant.4 (omega (arith, ap (λ (n : ℕ). n * x.blocks) h))
-    ∙ ap (λ (n : ℕ). joined n (λ a. tabulate (x.s.rows * x.blocks) (rule (start w) a))) w.wide.ensures))
+    let x = (start c.before.before.before.before.before).args in
+    let h : c.row.j ≡ x.s.rows = omega arith in
+    columns_all {f = rule (start c.before.before.before.before.before)} c.row.invariant.4 (omega (arith, ap (λ (n : ℕ). n * x.blocks) h))
+    ∙ ap (λ (n : ℕ). joined n (λ a. tabulate (x.s.rows * x.blocks) (rule (start c.before.before.before.before.before) a))) c.wide-n.ensures))

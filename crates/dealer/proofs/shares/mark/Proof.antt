@@ -13,12 +13,12 @@ pub mark_spec : {M : Type 1} → statement M
 mark_spec =
     tie.close
     (tie.spec
-    (λ c bytes m long inside in_block e. e ∙ not_in_column _ _ _ _ _ bytes m long inside in_block (λ k h t-is. c.if1.true))
-    (λ c bytes m long inside in_block e. e ∙ not_in_column _ _ _ _ _ bytes m long inside in_block (λ k h t-is _. omega (arith, c.if2.true)))
-    (λ c bytes m long inside in_block e. e ∙ not_in_column _ _ _ _ _ bytes m long inside in_block (λ k h t-is _. omega (arith, c.if3.true)))
-    (λ c. omega (arith, c.if3.false, c.before.before.before.before.requires))
+    (λ c bytes m long inside in_block e. e ∙ not_in_column _ _ _ _ _ bytes m long inside in_block (λ k h t-is. c.if-place-end.true))
+    (λ c bytes m long inside in_block e. e ∙ not_in_column _ _ _ _ _ bytes m long inside in_block (λ k h t-is _. omega (arith, c.if-last-t.true)))
+    (λ c bytes m long inside in_block e. e ∙ not_in_column _ _ _ _ _ bytes m long inside in_block (λ k h t-is _. omega (arith, c.if-k-ge-LANES.true)))
+    (λ c. omega (arith, c.if-k-ge-LANES.false, c.requires))
     (λ c. search rules)
     (λ c bytes m long inside in_block e.
-    let a = c.before.before.before.before.args in
+    let a = c.args in
     ap (λ l. set l (a.end.block - a.t) a.end.byte) e
-    ∙ in-column _ _ _ _ _ bytes m long inside in_block (a.end.block - a.t) (omega (arith, c.if3.false)) (omega (arith, c.before.if2.false)) c.before.before.if1.false))
+    ∙ in-column _ _ _ _ _ bytes m long inside in_block (a.end.block - a.t) (omega (arith, c.if-k-ge-LANES.false)) (omega (arith, c.if-last-t.false)) c.if-place-end.false))

@@ -15,70 +15,56 @@ use Rattle.reader.proofs.Lending.{few, list_few, lost_few, lent_fits, test-first
 use Rattle.reader.proofs.agreeing.agree.Statement.{statement}
 use Rattle.reader.proofs.agreeing.agree.Tie as tie
 
-abbrev invariant-loop : tie.invariant-loop
-invariant-loop s counts blocks parties skip weights shares work share₀ d a₀ share a =
+abbrev invariant-loop-a : tie.invariant-loop-a
+invariant-loop-a s counts blocks parties skip weights shares work share₀ d a₀ share a =
     (a ≤ length parties) × (length share ≡ length share₀) × ((k : ℕ) → k < a → same_at s counts parties blocks skip shares k ≡ true)
 
-abbrev decreases-loop : tie.decreases-loop
-decreases-loop s counts blocks parties skip weights shares work share₀ d a₀ share a = length parties - a
+abbrev decreases-loop-a : tie.decreases-loop-a
+decreases-loop-a s counts blocks parties skip weights shares work share₀ d a₀ share a = length parties - a
 
-abbrev begun : tie.In-loop invariant-loop decreases-loop → tie.After-open-first invariant-loop decreases-loop
+abbrev begun : tie.In-loop-a invariant-loop-a decreases-loop-a → tie.After-open_first invariant-loop-a decreases-loop-a
 begun c = c.before.before.before.before.before.before.before
 
-abbrev start : tie.After-open-first invariant-loop decreases-loop → tie.Start invariant-loop decreases-loop
+abbrev start : tie.After-open_first invariant-loop-a decreases-loop-a → tie.Start invariant-loop-a decreases-loop-a
 start c = c.before.before.before.before.before.before.before.before
 
-bytes_of : (c : tie.After-open-first invariant-loop decreases-loop) → Each Byte (start c).args.shares.now
-bytes_of c = each_of Byte (start c).args.shares.now 0 (λ i l. (c.before.before.before.before.before.shared-slice-known3.given i).fits)
+bytes_of : (c : tie.After-open_first invariant-loop-a decreases-loop-a) → Each Byte (start c).args.shares.now
+bytes_of c = each_of Byte (start c).args.shares.now 0 (λ i l. (c.shared_slice_known-3-1.given i).fits)
 
-pub agree-spec : {M : Type 1} → statement M
-agree-spec =
+pub agree_spec : {M : Type 1} → statement M
+agree_spec =
     tie.close
-    (tie.spec invariant-loop decreases-loop
+    (tie.spec invariant-loop-a decreases-loop-a
     (λ c κs. search rules)
     (λ c. search rules)
     (λ c. search rules)
-    (λ c. lost_few (start c.before.before.before.before).pre.0.0)
-    (λ c κs. few (start c.before.before.before.before).pre.0.0)
+    (λ c. lost_few (start c.before.before.before.before).requires.0.0)
+    (λ c κs. few (start c.before.before.before.before).requires.0.0)
     (λ c.
-    let o = c.before.before.before.before.before in
-    let s = start o in (
-      lent_fits s.pre.0.0 c.lent-count.result c.lent-count.ensures,
+    (
+      lent_fits (start c.before.before.before.before.before).requires.0.0 c.lent_count-a.result c.lent_count-a.ensures,
       refl,
-      test-first s.pre.0.0 (bytes_of o) c.lent-count.result c.lent-count.ensures,
+      test-first (start c.before.before.before.before.before).requires.0.0 (bytes_of c.before.before.before.before.before) c.lent_count-a.result c.lent_count-a.ensures,
     ))
     (λ c κs.
-    let i = c.before.before in
-    let o = begun i in
-    let s = start o in
-    (s.pre.0, (o.open-first.ensures, i.before.loop.invariant.1 ∙ s.pre.1.1, i.loop-test.true)))
-    (λ c. (begun c.before.before.before.before.before.before).open-first.kept.1.1.1.1.1.1.1.0)
+    ((start (begun c.before)).requires.0, ((begun c.before).open_first.ensures, c.loop-a.invariant.1 ∙ (start (begun c.before)).requires.1.1, c.loop-a-test.true)))
+    (λ c. (begun c.before.before.before.before.before).open_first.auto.work)
     (λ c.
-    let m = c.before.before.before in
-    m.same_share.auto.1.1.1.1.1.1.1.1.1.0 ∙ m.before.before.before.before.loop.invariant.1)
+    c.same_share.auto.share ∙ c.loop-a.invariant.1)
     (λ c.
-    let m = c.before.before.before in
-    let i = m.before.before.before in
-    let o = begun i in
-    let s = start o in
-    (sym (test_fails s.pre.0.0 (bytes_of o) i.before.loop.a i.loop-test.true (sym m.same_share.ensures ∙ not-true _ c.if1.true)), o.open-first.ensures))
+    (sym (test_fails (start (begun c.before.before.before.before.before)).requires.0.0 (bytes_of (begun c.before.before.before.before.before)) c.loop-a.a c.loop-a-test.true (sym c.same_share.ensures ∙ c.if-not-same_share.true)), (begun c.before.before.before.before.before).open_first.ensures))
     (λ c.
-    let i = c.before.before.before.before.before.before in
-    omega (arith, i.loop-test.true, list_few (start (begun i)).pre.0.0))
-    (λ c. omega (arith, c.before.before.before.before.before.before.loop-test.true))
+    omega (arith, c.loop-a-test.true, list_few (start (begun c.before.before.before.before.before)).requires.0.0))
+    (λ c. omega (arith, c.loop-a-test.true))
     (λ c.
-    let m = c.before.before.before in
-    let i = m.before.before.before in
-    let l = i.before.loop in (
-      omega (arith, i.loop-test.true),
-      m.same_share.auto.1.1.1.1.1.1.1.1.1.0 ∙ l.invariant.1,
-      below_more _ _ l.invariant.2 (sym m.same_share.ensures ∙ not-false _ c.if1.false),
+    let l = c.loop-a in (
+      omega (arith, c.loop-a-test.true),
+      c.same_share.auto.share ∙ l.invariant.1,
+      below_more _ _ l.invariant.2 (sym c.same_share.ensures ∙ c.if-not-same_share.false),
     ))
-    (λ c. c.before.before.before.before.before.before.before.open-first.auto.1.1.1.1.1.1.1.0)
-    (λ c. c.before.loop.invariant.1)
+    (λ c. c.open_first.auto.work)
+    (λ c. c.loop-a.invariant.1)
     (λ c.
-    let l = c.before.loop in
-    let o = c.before.before.before.before.before.before.before in
-    let s = start o in
-    let whole : l.a ≡ length s.args.parties.now = omega (arith, l.invariant.0, c.loop-test.false) in
-    (sym (test_passes s.pre.0.0 (bytes_of o) (λ k h. l.invariant.2 k (rw whole h))), o.open-first.ensures)))
+    let l = c.loop-a in
+    let whole : l.a ≡ length (start c.before.before.before.before.before.before.before).args.parties.now = omega (arith, l.invariant.0, c.loop-a-test.false) in
+    (sym (test_passes (start c.before.before.before.before.before.before.before).requires.0.0 (bytes_of c.before.before.before.before.before.before.before) (λ k h. l.invariant.2 k (rw whole h))), c.open_first.ensures)))

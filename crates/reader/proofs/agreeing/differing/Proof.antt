@@ -18,11 +18,11 @@ use Rattle.gf256.proofs.Laws.{⊕_self, ⊕_equal}
 use Rattle.reader.proofs.agreeing.differing.Statement.{statement}
 use Rattle.reader.proofs.agreeing.differing.Tie as tie
 
-abbrev invariant-loop : tie.invariant-loop
-invariant-loop a b end count₀ i₀ count i = (i ≤ end) × (count ≤ i) × (count + differing (drop i a) (drop i b) ≡ differing a b)
+abbrev invariant-loop-i : tie.invariant-loop-i
+invariant-loop-i a b end count₀ i₀ count i = (i ≤ end) × (count ≤ i) × (count + differing (drop i a) (drop i b) ≡ differing a b)
 
-abbrev decreases-loop : tie.decreases-loop
-decreases-loop a b end count₀ i₀ count i = end - i
+abbrev decreases-loop-i : tie.decreases-loop-i
+decreases-loop-i a b end count₀ i₀ count i = end - i
 
 -- one place more, where the sum of the bytes was tested
 module _ (xs ys : List ℕ) (i count total : ℕ) (hx : i < length xs) (hy : i < length ys) (few : count ≤ i)
@@ -36,48 +36,46 @@ module _ (xs ys : List ℕ) (i count total : ℕ) (hx : i < length xs) (hy : i <
       let one : more ≡ 1 = is ∙ rw (ne_eqb _ 0 (λ q. n (⊕_equal (get_or xs i 0) (get_or ys i 0) q))) in
       (omega arith, omega (arith, differing_here xs ys i hx hy n))
 
-module _ (c : tie.After-nonzero invariant-loop decreases-loop) where
-  abbrev i : tie.In-loop invariant-loop decreases-loop
+module _ (c : tie.After-nonzero-count invariant-loop-i decreases-loop-i) where
+  abbrev i : tie.In-loop-i invariant-loop-i decreases-loop-i
   i = c.before.before.before
 
-  abbrev st : tie.Start invariant-loop decreases-loop
+  abbrev st : tie.Start invariant-loop-i decreases-loop-i
   st = i.before.before.before.before.before
 
-  inside : (i.before.loop.i < length st.args.a.now) × (i.before.loop.i < length st.args.b.now)
+  inside : (i.loop-i.i < length st.args.a.now) × (i.loop-i.i < length st.args.b.now)
   inside =
-      let m = i.before.before.smaller.ensures in
-      (omega (arith, i.loop-test.taken), omega (arith, i.loop-test.taken))
+      let m = i.smaller-end.ensures in
+      (omega (arith, i.loop-i-test.true), omega (arith, i.loop-i-test.true))
 
   abbrev count : ℕ
-  count = i.before.loop.count + c.nonzero.result
+  count = i.loop-i.count + c.nonzero-count.result
 
-  place_more : (count ≤ i.before.loop.i + 1)
-      × (count + differing (drop (i.before.loop.i + 1) st.args.a.now) (drop (i.before.loop.i + 1) st.args.b.now)
+  place_more : (count ≤ i.loop-i.i + 1)
+      × (count + differing (drop (i.loop-i.i + 1) st.args.a.now) (drop (i.loop-i.i + 1) st.args.b.now)
       ≡ differing st.args.a.now st.args.b.now)
   unfolding ◌⊕◌
   place_more =
-      counted st.args.a.now st.args.b.now i.before.loop.i i.before.loop.count _ inside.0 inside.1 i.before.loop.inv.1
-      i.before.loop.inv.2 c.nonzero.result c.nonzero.ensures (ℕ_discrete _ _)
+      counted st.args.a.now st.args.b.now i.loop-i.i i.loop-i.count _ inside.0 inside.1 i.loop-i.invariant.1
+      i.loop-i.invariant.2 c.nonzero-count.result c.nonzero-count.ensures (ℕ_discrete _ _)
 
-pub differing-spec : {M : Type 1} → statement M
-differing-spec =
+pub differing_spec : {M : Type 1} → statement M
+differing_spec =
     tie.close
-    (tie.spec invariant-loop decreases-loop
+    (tie.spec invariant-loop-i decreases-loop-i
     (λ c κs. search rules)
     (λ c. (zero-le, zero-le, omega arith))
     (λ c.
-    let i = c.before in
-    omega (arith, i.loop-test.true, i.before.before.smaller.ensures))
+    omega (arith, c.loop-i-test.true, c.smaller-end.ensures))
     (λ c.
-    let i = c.before.before in
-    omega (arith, i.loop-test.true, i.before.before.smaller.ensures))
+    omega (arith, c.loop-i-test.true, c.smaller-end.ensures))
     (λ c κs. search rules)
     (λ c. omega (arith, (place_more c).0, (inside c).0))
     (λ c. omega (arith, (inside c).0))
-    (λ c. omega (arith, c.before.before.before.loop-test.true))
-    (λ c. (omega (arith, c.before.before.before.loop-test.true), (place_more c).0, (place_more c).1))
+    (λ c. omega (arith, c.loop-i-test.true))
+    (λ c. (omega (arith, c.loop-i-test.true), (place_more c).0, (place_more c).1))
     (λ c.
-    let l = c.before.loop in
-    let m = c.before.before.smaller.ensures in
-    let a = c.before.before.before.before.before.args in
-    omega (arith, l.invariant.2, differing_end a.a.now a.b.now l.i (omega (arith, l.invariant.0, c.loop-test.false)))))
+    let l = c.loop-i in
+    let m = c.smaller-end.ensures in
+    let a = c.args in
+    omega (arith, l.invariant.2, differing_end a.a.now a.b.now l.i (omega (arith, l.invariant.0, c.loop-i-test.false)))))

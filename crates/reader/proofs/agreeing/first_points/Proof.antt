@@ -14,37 +14,29 @@ use Rattle.reader.proofs.Lending.{points-left}
 use Rattle.reader.proofs.agreeing.first_points.Statement.{statement}
 use Rattle.reader.proofs.agreeing.first_points.Tie as tie
 
-abbrev invariant-loop : tie.invariant-loop
-invariant-loop parties skip d points₀ i₀ points i = (i ≤ d) × ((p : Parameters) → Fill (λ k. point p (get_or parties (skipped skip k) 0)) side i points)
+abbrev invariant-loop-i : tie.invariant-loop-i
+invariant-loop-i parties skip d points₀ i₀ points i = (i ≤ d) × ((p : Parameters) → Fill (λ k. point p (get_or parties (skipped skip k) 0)) side i points)
 
-abbrev decreases-loop : tie.decreases-loop
-decreases-loop parties skip d points₀ i₀ points i = d - i
+abbrev decreases-loop-i : tie.decreases-loop-i
+decreases-loop-i parties skip d points₀ i₀ points i = d - i
 
-pub first-points-spec : {M : Type 1} → statement M
-first-points-spec =
+pub first_points_spec : {M : Type 1} → statement M
+first_points_spec =
     tie.close
-    (tie.spec invariant-loop decreases-loop
+    (tie.spec invariant-loop-i decreases-loop-i
     (λ c. (zero-le, λ p. fill_none _ side _ refl))
-    (λ c κs. omega (arith, c.loop-test.true, c.before.before.before.requires.0))
+    (λ c κs. omega (arith, c.loop-i-test.true, c.requires.0))
     (λ c.
-    let p = c.before in
-    let i = p.before in
-    let s = i.before.before.before in
-    rw p.place_of.ensures (left_inside s.args.parties.now s.args.skip i.before.loop.i (omega (arith, i.loop-test.true, s.requires.1))))
+    rw c.place_of-a.ensures (left_inside c.args.parties.now c.args.skip c.loop-i.i (omega (arith, c.loop-i-test.true, c.requires.1))))
     (λ c κs. search rules)
     (λ c.
-    let i = c.before.before.before in
-    omega (arith, i.loop-test.true, i.before.before.before.requires.0))
-    (λ c. omega (arith, c.before.before.before.loop-test.true))
-    (λ c. omega (arith, c.before.before.before.loop-test.true))
+    omega (arith, c.loop-i-test.true, c.requires.0))
+    (λ c. omega (arith, c.loop-i-test.true))
+    (λ c. omega (arith, c.loop-i-test.true))
     (λ c.
-    let p = c.before.before in
-    let i = p.before in
-    let l = i.before.loop in
-    let s = i.before.before.before in
-    (omega (arith, i.loop-test.true), λ q. fill_more (l.invariant.1 q) (omega (arith, i.loop-test.true, s.requires.0)) (c.point-of.ensures q ∙ ap (λ (x : ℕ). point q (get_or s.args.parties.now x 0)) p.place_of.ensures)))
+    let l = c.loop-i in
+    (omega (arith, c.loop-i-test.true), λ q. fill_more (l.invariant.1 q) (omega (arith, c.loop-i-test.true, c.requires.0)) (c.point_of.ensures q ∙ ap (λ (x : ℕ). point q (get_or c.args.parties.now x 0)) c.place_of-a.ensures)))
     (λ c.
-    let l = c.before.loop in
-    let s = c.before.before.before in
-    let whole : l.i ≡ s.args.d = omega (arith, l.invariant.0, c.loop-test.false) in
-    λ q. rw whole at (l.invariant.1 q).is ∙ sym (points-left q s.args.parties.now s.args.skip s.args.d s.requires.1)))
+    let l = c.loop-i in
+    let whole : l.i ≡ c.args.d = omega (arith, l.invariant.0, c.loop-i-test.false) in
+    λ q. rw whole at (l.invariant.1 q).ic ∙ sym (points-left q c.args.parties.now c.args.skip c.args.d c.requires.1)))

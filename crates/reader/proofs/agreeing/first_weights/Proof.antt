@@ -11,25 +11,24 @@ use Rattle.reader.proofs.Lending.{few, lost_few, counts_some}
 use Rattle.reader.proofs.agreeing.first_weights.Statement.{statement}
 use Rattle.reader.proofs.agreeing.first_weights.Tie as tie
 
-abbrev start : tie.After-first-points → tie.Start
+abbrev start : tie.After-first_points-points → tie.Start
 start c = c.before.before.before.before.before.before
 
-pub first-weights-spec : {M : Type 1} → statement M
-first-weights-spec =
+pub first_weights_spec : {M : Type 1} → statement M
+first_weights_spec =
     tie.close
     (tie.spec
     (λ c. search rules)
     (λ c. search rules)
-    (λ c. lost_few c.before.before.before.before.before.requires)
+    (λ c. lost_few c.requires)
     (λ c κs.
-    let h = c.before.before.before.before.before.requires in
+    let h = c.requires in
     (few h, h.many))
     (λ c. omega (arith, few (start c).requires))
-    (λ c. sym (length-take-le _ c.before.first-points.result (omega (arith, few (start c.before).requires))))
+    (λ c. sym (length-take-le _ c.first_points-points.result (omega (arith, few (start c.before).requires))))
     (λ c. counts_some (start c.before.before).requires)
-    (λ c. omega (arith, c.shared-slice-known4.given 0))
+    (λ c. omega (arith, c.shared_slice_known-4-1.given 0))
     (λ c κs. search rules)
     (λ c.
-    let f = c.before.before.before in
-    let top = get_or (start f).args.counts.now 0 0 in
-    c.opening-weights.ensures ∙ ap (λ (points : List _). opening_table points top) (f.first-points.ensures _)))
+    let top = get_or (start c.before.before.before).args.counts.now 0 0 in
+    c.opening_weights.ensures ∙ ap (λ (points : List _). opening_table points top) (c.first_points-points.ensures _)))

@@ -12,76 +12,61 @@ use Rattle.reader.proofs.Lending.{few, list_few, lost_few, named_few, lending_wi
 use Rattle.reader.proofs.agreeing.name.Statement.{statement}
 use Rattle.reader.proofs.agreeing.name.Tie as tie
 
-abbrev invariant-loop : tie.invariant-loop
-invariant-loop s counts blocks parties shares work₀ share₀ d i₀ work share i =
+abbrev invariant-loop-i : tie.invariant-loop-i
+invariant-loop-i s counts blocks parties shares work₀ share₀ d i₀ work share i =
     (i ≤ length parties) × (length work ≡ length work₀) × (length share ≡ length share₀)
     × (first_from (agrees_without (parameters_of s counts) parties blocks shares) (length parties - i) i
     ≡ first_from (agrees_without (parameters_of s counts) parties blocks shares) (length parties) 0)
 
-abbrev decreases-loop : tie.decreases-loop
-decreases-loop s counts blocks parties shares work₀ share₀ d i₀ work share i = length parties - i
+abbrev decreases-loop-i : tie.decreases-loop-i
+decreases-loop-i s counts blocks parties shares work₀ share₀ d i₀ work share i = length parties - i
 
-abbrev start : tie.Else1 invariant-loop decreases-loop → tie.Start invariant-loop decreases-loop
+abbrev start : tie.Else-parties-d invariant-loop-i decreases-loop-i → tie.Start invariant-loop-i decreases-loop-i
 start c = c.before.before.before.before.before.before.before.before
 
-abbrev in-loop : tie.After-agree invariant-loop decreases-loop → tie.In-loop invariant-loop decreases-loop
+abbrev in-loop : tie.After-agree invariant-loop-i decreases-loop-i → tie.In-loop-i invariant-loop-i decreases-loop-i
 in-loop c = c.before.before.before.before.before
 
-pub name-spec : {M : Type 1} → statement M
-name-spec =
+pub name_spec : {M : Type 1} → statement M
+name_spec =
     tie.close
-    (tie.spec invariant-loop decreases-loop
+    (tie.spec invariant-loop-i decreases-loop-i
     (λ c. search rules)
     (λ c. search rules)
-    (λ c. lost_few c.before.before.before.before.before.before.before.requires.0)
-    (λ c. omega (arith, few c.before.before.before.before.before.before.before.requires.0))
-    (λ c. named_few c.before.before.before.before.before.before.before.before.requires.0 (omega (arith, c.if1.true)))
+    (λ c. lost_few c.requires.0)
+    (λ c. omega (arith, few c.requires.0))
+    (λ c. named_few c.requires.0 (omega (arith, c.if-parties-d.true)))
     (λ c.
     let whole : length (start c).args.parties.now - 0 ≡ length (start c).args.parties.now = omega arith in
     (zero-le, refl, refl, rw whole))
     (λ c κs.
-    let e = c.before.before in
-    lending_without (start e).requires.0 (omega (arith, e.if1.false)) c.before.loop.i c.loop-test.true)
+    lending_without (start c.before.before).requires.0 (omega (arith, c.if-parties-d.false)) c.loop-i.i c.loop-i-test.true)
     (λ c κs.
-    let f = c.before.before.before in
-    let i = f.before in
-    let e = i.before.before in
-    let s = start e in (
-      (lending_without s.pre.0 (omega (arith, e.if1.false)) i.before.loop.i i.loop-test.true, f.first-weights.ensures),
-      (i.before.loop.invariant.1 ∙ s.pre.1.0, i.before.loop.invariant.2 ∙ s.pre.1.1),
+    (
+      (lending_without (start c.before.before.before.before.before.before).requires.0 (omega (arith, c.if-parties-d.false)) c.loop-i.i c.loop-i-test.true, c.first_weights-weights.ensures),
+      (c.loop-i.invariant.1 ∙ (start c.before.before.before.before.before.before).requires.1.0, c.loop-i.invariant.2 ∙ (start c.before.before.before.before.before.before).requires.1.1),
     ))
     (λ c. search rules)
     (λ c.
-    let m = c.before.before.before.before.before.before in
-    m.agree.auto.1.1.1.1.1.1.1.0 ∙ (in-loop m).before.loop.invariant.1)
+    c.agree.auto.work ∙ (in-loop c.before.before.before.before.before.before).loop-i.invariant.1)
     (λ c.
-    let m = c.before.before.before.before.before.before in
-    m.agree.auto.1.1.1.1.1.1.1.1.0 ∙ (in-loop m).before.loop.invariant.2)
+    c.agree.auto.share ∙ (in-loop c.before.before.before.before.before.before).loop-i.invariant.2)
     (λ c.
-    let t = c.before in
-    let m = t.before.before.before.before.before in
-    let i = in-loop m in
-    let e = i.before.before in
-    named_here (start e).pre.0 i.before.loop.i i.before.loop.inv.3 e.if1.left i.loop-test.taken m.agree.result m.agree.ensures.0 t.if2.true)
+    named_here (start (in-loop c.before.before.before.before.before.before).before.before).requires.0 (in-loop c.before.before.before.before.before.before).loop-i.i (in-loop c.before.before.before.before.before.before).loop-i.invariant.3 (in-loop c.before.before.before.before.before.before).if-parties-d.false (in-loop c.before.before.before.before.before.before).loop-i-test.true c.agree.result c.agree.ensures.0 c.if-agree.true)
     (λ c.
-    let i = in-loop c.before.before.before.before.before in
-    omega (arith, i.loop-test.taken, list_few (start i.before.before).pre.0))
+    omega (arith, (in-loop c.before.before.before.before.before).loop-i-test.true, list_few (start (in-loop c.before.before.before.before.before).before.before).requires.0))
     (λ c.
-    let i = in-loop c.before.before.before.before.before in
-    omega (arith, i.loop-test.taken))
+    omega (arith, (in-loop c.before.before.before.before.before).loop-i-test.true))
     (λ c.
-    let m = c.before.before.before.before.before in
-    let i = in-loop m in
-    let l = i.before.loop in
-    let e = i.before.before in (
-      omega (arith, i.loop-test.taken),
-      m.agree.auto.1.1.1.1.1.1.1.0 ∙ l.inv.1,
-      m.agree.auto.1.1.1.1.1.1.1.1.0 ∙ l.inv.2,
-      named-next (start e).pre.0 l.i l.inv.3 i.loop-test.taken m.agree.result m.agree.ensures.0 c.if2.false,
+    let l = (in-loop c.before.before.before.before.before).loop-i in
+    (
+      omega (arith, (in-loop c.before.before.before.before.before).loop-i-test.true),
+      c.agree.auto.work ∙ l.invariant.1,
+      c.agree.auto.share ∙ l.invariant.2,
+      named-next (start (in-loop c.before.before.before.before.before).before.before).requires.0 l.i l.invariant.3 (in-loop c.before.before.before.before.before).loop-i-test.true c.agree.result c.agree.ensures.0 c.if-agree.false,
     ))
-    (λ c. c.before.loop.invariant.1)
-    (λ c. c.before.loop.invariant.2)
+    (λ c. c.loop-i.invariant.1)
+    (λ c. c.loop-i.invariant.2)
     (λ c.
-    let l = c.before.loop in
-    let e = c.before.before in
-    named_none (start e).requires.0 l.i l.invariant.3 e.if1.false c.loop-test.false))
+    let l = c.loop-i in
+    named_none (start c.before.before).requires.0 l.i l.invariant.3 c.if-parties-d.false c.loop-i-test.false))

@@ -11,37 +11,28 @@ use Rattle.reader.proofs.Lending.{few, lost_few, share_short, sent-all, bytes_fi
 use Rattle.reader.proofs.agreeing.open_first.Statement.{statement}
 use Rattle.reader.proofs.agreeing.open_first.Tie as tie
 
-abbrev start : tie.After-lent-count → tie.Start
+abbrev start : tie.After-lent_count → tie.Start
 start c = c.before.before.before.before.before.before.before
 
-bytes_of : (c : tie.After-lent-count) → Each Byte (start c).args.shares.now
-bytes_of c = each_of Byte (start c).args.shares.now 0 (λ i l. (c.before.before.before.before.shared-slice-known3.given i).fits)
+bytes_of : (c : tie.After-lent_count) → Each Byte (start c).args.shares.now
+bytes_of c = each_of Byte (start c).args.shares.now 0 (λ i l. (c.shared_slice_known-3-1.given i).fits)
 
-pub open-first-spec : {M : Type 1} → statement M
-open-first-spec =
+pub open_first_spec : {M : Type 1} → statement M
+open_first_spec =
     tie.close
     (tie.spec
     (λ c. search rules)
     (λ c. search rules)
-    (λ c. lost_few c.before.before.before.before.before.before.requires.0.0)
-    (λ c κs. few c.before.before.before.before.before.before.requires.0.0)
+    (λ c. lost_few c.requires.0.0)
+    (λ c κs. few c.requires.0.0)
     (λ c. omega (arith, share_short (start c.before).requires.0.0))
     (λ c.
-    let n = c.before in
-    let s = start n in
-    omega (arith, bytes_few s.pre.0.0 n.lent-count.result n.lent-count.ensures))
+    omega (arith, bytes_few (start c.before).requires.0.0 c.lent_count.result c.lent_count.ensures))
     (λ c.
-    let n = c.before.before in
-    let s = start n in
-    sym (length-take-le _ s.args.shares.now (bytes_fit s.pre.0.0 n.lent-count.result n.lent-count.ensures)))
+    sym (length-take-le _ (start c.before).args.shares.now (bytes_fit (start c.before).requires.0.0 c.lent_count.result c.lent_count.ensures)))
     (λ c κs.
-    let n = c.before.before.before in
-    let s = start n in
-    (input s.pre.0.0 (bytes_of n) n.lent-count.result n.lent-count.ensures, le_of_eq (sym (sent-all s.pre.0.0)), s.pre.1))
+    (input (start c.before.before).requires.0.0 (bytes_of c.before.before) c.lent_count.result c.lent_count.ensures, le_of_eq (sym (sent-all (start c.before.before).requires.0.0)), (start c.before.before).requires.1))
     (λ c. search rules)
     (λ c.
-    let o = c.before.before in
-    let n = o.before.before.before.before in
-    let s = start n in
-    opened s.pre.0.0 (bytes_of n) n.lent-count.result n.lent-count.ensures _ s.pre.0.1 _
-    (o.decode.auto.1.1.1.1.1.1.1.1.0 ∙ s.pre.1) o.decode.ensures.1))
+    opened (start c.before.before.before.before.before).requires.0.0 (bytes_of c.before.before.before.before.before) c.lent_count.result c.lent_count.ensures _ (start c.before.before.before.before.before).requires.0.1 _
+    (c.decode.auto.work ∙ (start c.before.before.before.before.before).requires.1) c.decode.ensures.1))

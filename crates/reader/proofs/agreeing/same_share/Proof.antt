@@ -26,29 +26,25 @@ inside : (s : tie.Start) → s.args.a * (s.args.s.rows * s.args.blocks) + s.args
 inside s =
     omega (arith, row_room s.args.a (length s.args.parties.now) (s.args.s.rows * s.args.blocks) s.requires.1.2, s.requires.0.0.shares_long)
 
-abbrev start : tie.After-struct-known → tie.Start
+abbrev start : tie.After-struct_known-1 → tie.Start
 start c = c.before.before.before.before.before.before.before.before.before.before.before.before
 
-pub same-share-spec : {M : Type 1} → statement M
-same-share-spec =
+pub same_share_spec : {M : Type 1} → statement M
+same_share_spec =
     tie.close
     (tie.spec
-    (λ c. rw (eq-eqb _ _ c.if1.true))
+    (λ c. rw (eq-eqb _ _ c.if-a-skip.true))
     (λ c. search rules)
     (λ c κs. search rules)
     (λ c. search rules)
     (λ c. omega (arith, inside (start c)))
-    (λ c. omega (arith, inside (start c.before)))
+    (λ c. omega (arith, inside (start c)))
     (λ c. search rules)
     (λ c. search rules)
-    (λ c. inside (start c.before))
+    (λ c. inside (start c))
     (λ c κs. search rules)
     (λ c. search rules)
     (λ c.
-    let k = c.before.before.before in
-    let s = start k in
-    let a = s.args in
-    let r = k.before.before.before in
-    let e = r.before.before.before in
-    rw (ne_eqb _ _ e.if1.false)
-    (ap (λ (x : ℕ). eqb x 0) (c.differing.ensures ∙ ap₂ differing r.rebuild-share.ensures (part_is a.shares.now a.a (a.s.rows * a.blocks))))))
+    let a = (start c.before.before).args in
+    rw (ne_eqb _ _ c.if-a-skip.false)
+    (ap (λ (x : ℕ). eqb x 0) (c.differing.ensures ∙ ap₂ differing c.rebuild_share.ensures (part_is a.shares.now a.a (a.s.rows * a.blocks))))))

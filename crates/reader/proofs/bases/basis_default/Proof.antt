@@ -5,5 +5,5 @@ use borrow.Author.Rules.{rules}
 use Rattle.reader.proofs.bases.basis_default.Statement.{statement}
 use Rattle.reader.proofs.bases.basis_default.Tie as tie
 
-pub basis-default-spec : {M : Type 1} → statement M
-basis-default-spec = tie.close (tie.spec (λ c. search rules) (λ c κs. search rules) (λ c. c.basis.ensures))
+pub basis_default_spec : {M : Type 1} → statement M
+basis_default_spec = tie.close (tie.spec (λ c. search rules) (λ c κs. search rules) (λ c. c.basis.ensures))

@@ -5,5 +5,5 @@ use borrow.Author.Rules.{rules}
 use Rattle.reader.proofs.bases.basis_size_default.Statement.{statement}
 use Rattle.reader.proofs.bases.basis_size_default.Tie as tie
 
-pub basis-size-default-spec : {M : Type 1} → statement M
-basis-size-default-spec = tie.close (tie.spec (λ c. search rules) (λ c κs. search rules) (λ c. c.basis-size.ensures))
+pub basis_size_default_spec : {M : Type 1} → statement M
+basis_size_default_spec = tie.close (tie.spec (λ c. search rules) (λ c κs. search rules) (λ c. c.basis_size.ensures))

@@ -12,19 +12,18 @@ use Rattle.reader.proofs.Doublings.{marked, marked_none, marked_more, marked-sam
 use Rattle.reader.proofs.combining.add_marked.Statement.{statement}
 use Rattle.reader.proofs.combining.add_marked.Tie as tie
 
-abbrev invariant-loop : tie.invariant-loop
-invariant-loop columns weights n bit total₀ i₀ total i = (i ≤ n) × (total ≡ marked total₀ columns weights bit i)
+abbrev invariant-loop-i : tie.invariant-loop-i
+invariant-loop-i columns weights n bit total₀ i₀ total i = (i ≤ n) × (total ≡ marked total₀ columns weights bit i)
 
-abbrev decreases-loop : tie.decreases-loop
-decreases-loop columns weights n bit total₀ i₀ total i = n - i
+abbrev decreases-loop-i : tie.decreases-loop-i
+decreases-loop-i columns weights n bit total₀ i₀ total i = n - i
 
-pub add-marked-spec : {M : Type 1} → statement M
-add-marked-spec =
+pub add_marked_spec : {M : Type 1} → statement M
+add_marked_spec =
     tie.close
-    (tie.spec invariant-loop decreases-loop
+    (tie.spec invariant-loop-i decreases-loop-i
     (λ c.
-    let s = c.before in
-    (search rules, marked_none s.args.sum s.args.columns.now s.args.weights.now s.args.bit (array_length lanes s.args.sum _ s.well-formed.0)))
+    (search rules, marked_none c.args.sum c.args.columns.now c.args.weights.now c.args.bit (array_length lanes c.args.sum _ c.well_formed.0)))
     (λ c. search rules)
     (λ c. search rules)
     (λ c κs. search rules)
@@ -32,13 +31,13 @@ add-marked-spec =
     (λ c. search rules)
     (λ c. search rules)
     (λ c.
-    let l = c.before.before.before.loop in
-    let a = c.before.before.before.before.before.args in (
+    let l = c.loop-i in
+    let a = c.args in (
       search rules,
-      ⊎_elim (λ w. marked_more a.sum a.columns.now a.weights.now a.bit l.i l.invariant.1 w.0.taken w.1.ensures w.2.ensures w.3)
-          (λ w. marked-same a.sum a.columns.now a.weights.now a.bit l.i l.invariant.1 w.0.left w.1) c.if1.branch,
+      ⊎_elim (λ w. marked_more a.sum a.columns.now a.weights.now a.bit l.i l.invariant.1 w.0.true w.1.ensures w.2.ensures w.3)
+          (λ w. marked-same a.sum a.columns.now a.weights.now a.bit l.i l.invariant.1 w.0.false w.1) c.if-weights-i-eq1.branch-raw,
     ))
     (λ c.
-    let l = c.before.loop in
-    let all : l.i ≡ c.before.before.before.args.n = omega arith in
+    let l = c.loop-i in
+    let all : l.i ≡ c.args.n = omega arith in
     rw all at l.invariant.1))

@@ -19,33 +19,29 @@ column-first : (bytes : List ℕ) → lanes ≤ length bytes → flat_column byt
 unfolding flat_column
 column-first bytes h = tabulate-same lanes _ _ (λ k l. ap (λ (i : ℕ). get_or bytes i 0) (omega arith)) ∙ take-tabulate lanes bytes 0 h
 
-abbrev invariant-loop : tie.invariant-loop
-invariant-loop from out₀ i₀ out i = Fill (λ k. get_or from k 0) (length out₀) i out
+abbrev invariant-loop-i : tie.invariant-loop-i
+invariant-loop-i from out₀ i₀ out i = Fill (λ k. get_or from k 0) (length out₀) i out
 
-abbrev decreases-loop : tie.decreases-loop
-decreases-loop from out₀ i₀ out i = length out₀ - i
+abbrev decreases-loop-i : tie.decreases-loop-i
+decreases-loop-i from out₀ i₀ out i = length out₀ - i
 
 pub copy_spec : {M : Type 1} → statement M
 copy_spec =
     tie.close
-    (tie.spec invariant-loop decreases-loop
+    (tie.spec invariant-loop-i decreases-loop-i
     (λ c κs. search rules)
     (λ c κs. search rules)
     (λ c. search rules)
     (λ c.
-    let w = c.before.before.before.before in
-    let i = w.before in
-    let s = i.before.before.before in
-    c.before.before.store.ensures ∙ w.column.ensures ∙ column-first s.args.from.now (omega (arith, i.if1.true, s.requires))
-    ∙ ap (λ (n : ℕ). take n s.args.from.now) (sym i.if1.true))
+    c.store.ensures ∙ c.column.ensures ∙ column-first c.args.from.now (omega (arith, c.if-out-eq-LANES.true, c.requires))
+    ∙ ap (λ (n : ℕ). take n c.args.from.now) (sym c.if-out-eq-LANES.true))
     (λ c. fill_none _ _ _ refl)
-    (λ c. omega (arith, c.before.before.loop.invariant.long))
+    (λ c. omega (arith, c.loop-i.invariant.long))
     (λ c. search rules)
     (λ c. search rules)
-    (λ c. omega (arith, c.before.before.loop.invariant.long))
-    (λ c. fill_more c.before.before.loop.invariant (omega (arith, c.before.before.loop.invariant.long)) refl)
-    (λ c. c.before.loop.invariant.long)
+    (λ c. omega (arith, c.loop-i.invariant.long))
+    (λ c. fill_more c.loop-i.invariant (omega (arith, c.loop-i.invariant.long)) refl)
+    (λ c. c.loop-i.invariant.long)
     (λ c.
-    let s = c.before.before.before.before.before in
-    fill-all c.before.loop.invariant (omega (arith, c.before.loop.invariant.long))
-    ∙ take-tabulate _ s.args.from.now 0 s.requires))
+    fill-all c.loop-i.invariant (omega (arith, c.loop-i.invariant.long))
+    ∙ take-tabulate _ c.args.from.now 0 c.requires))

@@ -11,24 +11,23 @@ use Rattle.gf256.specs.Lanes.{lanes}
 use Rattle.reader.proofs.copying.store.Statement.{statement}
 use Rattle.reader.proofs.copying.store.Tie as tie
 
-abbrev invariant-loop : tie.invariant-loop
-invariant-loop out₀ values k₀ out k = Fill (λ i. get_or values i 0) lanes k out
+abbrev invariant-loop-k : tie.invariant-loop-k
+invariant-loop-k out₀ values k₀ out k = Fill (λ i. get_or values i 0) lanes k out
 
-abbrev decreases-loop : tie.decreases-loop
-decreases-loop out₀ values k₀ out k = lanes - k
+abbrev decreases-loop-k : tie.decreases-loop-k
+decreases-loop-k out₀ values k₀ out k = lanes - k
 
 pub store_spec : {M : Type 1} → statement M
 store_spec =
     tie.close
-    (tie.spec invariant-loop decreases-loop
+    (tie.spec invariant-loop-k decreases-loop-k
     (λ c. fill_none _ lanes _ c.requires)
     (λ c. search rules)
     (λ c. search rules)
     (λ c. search rules)
     (λ c. search rules)
-    (λ c. fill_more c.before.loop.invariant c.loop-test.true refl)
+    (λ c. fill_more c.loop-k.invariant c.loop-k-test.true refl)
     (λ c. search rules)
     (λ c.
-    let s = c.before.before in
-    fill-all c.before.loop.invariant c.loop-test.false
-    ∙ sym (tabulate_is s.args.t1 lanes _ 0 (array_length lanes s.args.t1 _ s.well-formed.0) (λ i h. refl))))
+    fill-all c.loop-k.invariant c.loop-k-test.false
+    ∙ sym (tabulate_is c.args.values lanes _ 0 (array_length lanes c.args.values _ c.well_formed.0) (λ i h. refl))))

@@ -15,51 +15,44 @@ small s =
     let h : s.args.t ≤ max_blocks = omega (arith, s.requires.1.1, s.requires.0.0.blocks_high) in
     mul-le-mul h s.requires.0.0.block_high
 
-abbrev start : tie.After-load-parties → tie.Start
-start c = c.before.before.before.before.before.before.before.before.before.before.before
+abbrev start : tie.After-load_parties → tie.Start
+start c = c.before.before.before.before.before.before.before.before.before.before
 
-pub decode-batch-spec : {M : Type 1} → statement M
-decode-batch-spec =
+pub decode_batch_spec : {M : Type 1} → statement M
+decode_batch_spec =
     tie.close
     (tie.spec
     (λ c κs.
-    let s = c.before.before.before.before.before in (
-      s.requires.0.1.top_low,
-      s.requires.0.1.top_high,
-      omega (arith, small s, s.requires.0.0.block_high),
-      (λ e a b. s.requires.0.1.places_low e (omega (arith, s.requires.0.0.z_low)) b),
-      s.requires.0.2,
+    (
+      c.requires.0.1.top_low,
+      c.requires.0.1.top_high,
+      omega (arith, small c.before.before.before.before, c.requires.0.0.block_high),
+      (λ e a b. c.requires.0.1.places_low e (omega (arith, c.requires.0.0.z_low)) b),
+      c.requires.0.2,
     ))
     (λ c.
-    let s = c.before.before.before.before.before.before.before.before in
-    omega (arith, s.requires.0.1.inside, s.requires.1.1))
+    omega (arith, c.requires.0.1.inside, c.requires.1.1))
     (λ c κs.
-    let k = c.before.before.before.before in
-    let s = k.before.before.before.before.before.before in
-    ((s.requires.0.0, k.known.ensures.long), (omega (arith, s.requires.1.0), omega (arith, s.requires.1.1, s.requires.0.1.inside), s.requires.1.2)))
+    ((c.requires.0.0, c.known.ensures.long), (omega (arith, c.requires.1.0), omega (arith, c.requires.1.1, c.requires.0.1.inside), c.requires.1.2)))
     (λ c κs.
-    let g = c.before.before.before.before in
-    let s = start g in (
-      (g.load-parties.ensures.1.long, s.pre.0.0.z_low, s.pre.0.0.d_high, s.pre.0.1.top_high),
+    (
+      (c.load_parties.ensures.1.long, (start c.before.before.before).requires.0.0.z_low, (start c.before.before.before).requires.0.0.d_high, (start c.before.before.before).requires.0.1.top_high),
       (
-        s.pre.1.0,
-        omega (arith, s.pre.1.1, s.pre.0.0.blocks_high),
-        s.pre.0.0.block_high,
-        (λ e a b. s.pre.0.1.places_low e a (omega (arith, s.pre.0.1.top_low))),
-        rw s.pre.0.3 (mul-le-mul_right s.args.sizes.block s.pre.1.1),
+        (start c.before.before.before).requires.1.0,
+        omega (arith, (start c.before.before.before).requires.1.1, (start c.before.before.before).requires.0.0.blocks_high),
+        (start c.before.before.before).requires.0.0.block_high,
+        (λ e a b. (start c.before.before.before).requires.0.1.places_low e a (omega (arith, (start c.before.before.before).requires.0.1.top_low))),
+        rw (start c.before.before.before).requires.0.3 (mul-le-mul_right (start c.before.before.before).args.sizes.block (start c.before.before.before).requires.1.1),
       ),
     ))
     (λ c.
-    let g = c.before.before.before.before.before.before.before in
-    g.load-parties.ensures.1.long ∙ sym (start g).requires.0.2)
-    (λ c. c.before.before.solve-batch.auto.1.1.1.1.1.1.1.1.1.0)
+    c.load_parties.ensures.1.long ∙ sym (start c.before.before.before.before.before.before).requires.0.2)
+    (λ c. c.solve_batch.auto.work)
     (λ c.
-    let b = c.before.before in
-    let g = b.before.before.before.before.before in
-    let s = start g in (
-      g.load-parties.ensures.0,
+    (
+      c.load_parties.ensures.0,
       λ B points W R H.
-          b.solve-batch.ensures B
-          (batch_step s.pre.0.0 s.pre.0.1 s.pre.1.0 s.pre.1.1 g.before.before.before.before.before.known.ensures
-          g.load-parties.ensures.1 W R H),
+          c.solve_batch.ensures B
+          (batch_step (start c.before.before.before.before.before.before).requires.0.0 (start c.before.before.before.before.before.before).requires.0.1 (start c.before.before.before.before.before.before).requires.1.0 (start c.before.before.before.before.before.before).requires.1.1 c.known.ensures
+          c.load_parties.ensures.1 W R H),
     )))

@@ -8,14 +8,14 @@ use Rattle.reader.specs.declared.decoding.Sizes.{Sizes}
 use Rattle.reader.proofs.decoding.sizes_of.Statement.{statement}
 use Rattle.reader.proofs.decoding.sizes_of.Tie as tie
 
-pub sizes-of-spec : {M : Type 1} → statement M
-sizes-of-spec =
+pub sizes_of_spec : {M : Type 1} → statement M
+sizes_of_spec =
     tie.close
     (tie.spec
     (λ c. search rules)
     (λ c κs. search rules)
-    (λ c. rw c.rows_of-count.ensures (omega (arith, c.before.before.requires)))
+    (λ c. rw c.rows_of_count.ensures (omega (arith, c.requires)))
     (λ c.
-    let a = c.before.before.args in
+    let a = c.args in
     let of-rows : ℕ → Sizes = λ P. record { z = a.s.z; d = a.d; block = a.s.block; blocks = a.blocks; prefix = P * a.blocks; skip = a.skip } in
-    ap of-rows c.rows_of-count.ensures))
+    ap of-rows c.rows_of_count.ensures))

@@ -11,8 +11,8 @@ use Rattle.reader.proofs.ending.chosen.Tie as tie
 small : (c : tie.Start) → let a = c.args in a.a * (1 - a.second) + a.b * a.second ≤ max_usize
 small c = let a = c.args in picked_within a.second a.a a.b max_usize c.requires (omega arith) (omega arith)
 
-pub chosen-spec : {M : Type 1} → statement M
-chosen-spec =
+pub chosen_spec : {M : Type 1} → statement M
+chosen_spec =
     tie.close
     (tie.spec
     (λ c. search rules)

@@ -5,12 +5,12 @@ use borrow.Author.Rules.{rules}
 use Rattle.reader.proofs.ending.end_by.Statement.{statement}
 use Rattle.reader.proofs.ending.end_by.Tie as tie
 
-pub end-by-spec : {M : Type 1} → statement M
-end-by-spec =
+pub end_by_spec : {M : Type 1} → statement M
+end_by_spec =
     tie.close
     (tie.spec
     (λ c. search rules)
     (λ c. search rules)
-    (λ c κs. rw c.enum-told2.given.1 at c.before.before.before.requires)
-    (λ c. rw c.enum_told.given.1 refl)
-    (λ c. rw c.before.enum-told2.given.1 c.sought.ensures))
+    (λ c κs. rw c.in-Sought.is at c.requires)
+    (λ c. rw c.in-Told.is refl)
+    (λ c. rw c.in-Sought.is c.sought.ensures))

@@ -10,21 +10,20 @@ use Rattle.reader.proofs.EndSearch.{bit_most, LastSeen, seen_none, seen_more, se
 use Rattle.reader.proofs.ending.last_nonzero.Statement.{statement}
 use Rattle.reader.proofs.ending.last_nonzero.Tie as tie
 
-abbrev invariant-loop : tie.invariant-loop
-invariant-loop bytes byte₀ after₀ i₀ byte after i = LastSeen bytes i byte after
+abbrev invariant-loop-i : tie.invariant-loop-i
+invariant-loop-i bytes byte₀ after₀ i₀ byte after i = LastSeen bytes i byte after
 
-abbrev decreases-loop : tie.decreases-loop
-decreases-loop bytes byte₀ after₀ i₀ byte after i = length bytes - i
+abbrev decreases-loop-i : tie.decreases-loop-i
+decreases-loop-i bytes byte₀ after₀ i₀ byte after i = length bytes - i
 
-bit : (c : tie.After-nonzero invariant-loop decreases-loop) → c.nonzero.result ≤ 1
+bit : (c : tie.After-nonzero-some invariant-loop-i decreases-loop-i) → c.nonzero-some.result ≤ 1
 bit c =
-    let l = c.before.before.before in
-    bit_most (get_or l.before.before.args.bytes.now l.loop.i 0) c.nonzero.result c.nonzero.ensures
+    bit_most (get_or c.args.bytes.now c.loop-i.i 0) c.nonzero-some.result c.nonzero-some.ensures
 
-pub last-nonzero-spec : {M : Type 1} → statement M
-last-nonzero-spec =
+pub last_nonzero_spec : {M : Type 1} → statement M
+last_nonzero_spec =
     tie.close
-    (tie.spec invariant-loop decreases-loop
+    (tie.spec invariant-loop-i decreases-loop-i
     (λ c. seen_none _)
     (λ c. search rules)
     (λ c κs. search rules)
@@ -34,13 +33,10 @@ last-nonzero-spec =
     (λ c κs. bit c.before.before)
     (λ c. search rules)
     (λ c.
-    let w = c.before.before in
-    let n = w.before in
-    let t = n.before.before in
-    let l = t.before.loop in
-    seen_more _ l.i l.byte l.after w.wide.result n.nonzero.result _ _ l.invariant t.loop-test.true w.wide.ensures n.nonzero.ensures
-    c.before.chosen.ensures c.chosen2.ensures)
+    let l = c.loop-i in
+    seen_more _ l.i l.byte l.after c.wide.result c.nonzero-some.result _ _ l.invariant c.loop-i-test.true c.wide.ensures c.nonzero-some.ensures
+    c.chosen-byte.ensures c.chosen-after.ensures)
     (λ c.
-    let l = c.before.loop in
-    let all : l.i ≡ length c.before.before.before.args.bytes.now = omega (arith, l.invariant.within, c.loop-test.false) in
+    let l = c.loop-i in
+    let all : l.i ≡ length c.args.bytes.now = omega (arith, l.invariant.within, c.loop-i-test.false) in
     seen_all _ l.byte l.after (rw all at l.invariant)))

@@ -9,15 +9,15 @@ use Rattle.reader.proofs.EndSearch.{FoundLast, after_most, after_some, end_missi
 use Rattle.reader.proofs.ending.sought.Statement.{statement}
 use Rattle.reader.proofs.ending.sought.Tie as tie
 
-found : (c : tie.After-last-nonzero) → let a = c.before.before.before.args in FoundLast a.m a.blocks.now c.last-nonzero.result
-found c = let s = c.before.before.before in record { positive = s.requires.0; room = s.requires.1; found = c.last-nonzero.ensures }
+found : (c : tie.After-last_nonzero-last) → let a = c.args in FoundLast a.m a.blocks.now c.last_nonzero-last.result
+found c = record { positive = c.requires.0; room = c.requires.1; found = c.last_nonzero-last.ensures }
 
 -- past the first test the byte is the marker
-marker_there : (c : tie.Else1) → c.before.before.before.last-nonzero.result.byte ≡ end_marker
-marker_there c = c.if1.false ∙ c.before.before.wide.ensures
+marker_there : (c : tie.Else-last-wide) → c.last_nonzero-last.result.byte ≡ end_marker
+marker_there c = c.if-last-wide.false ∙ c.wide.ensures
 
-pub sought-spec : {M : Type 1} → statement M
-sought-spec =
+pub sought_spec : {M : Type 1} → statement M
+sought_spec =
     tie.close
     (tie.spec
     (λ c. search rules)
@@ -27,16 +27,12 @@ sought-spec =
     (λ c κs. search rules)
     (λ c κs. search rules)
     (λ c N some whole.
-    let w = c.before.before in
-    end_missing_lem (found w.before) N some whole (λ e. c.if1.true (e ∙ sym w.wide.ensures)))
+    end_missing_lem (found c.before.before.before) N some whole (λ e. c.if-last-wide.true (e ∙ sym c.wide.ensures)))
     (λ c.
-    let f = c.before.before.before.before in
-    omega (arith, f.before.before.before.requires, after_most (found f)))
+    omega (arith, c.requires, after_most (found c.before.before.before.before)))
     (λ c. omega (arith, after_some (found c.before.before.before.before) (omega (arith, marker_there c.before))))
     (λ c N some whole.
-    let e = c.before.before in
-    end_far (found e.before.before.before) N some whole (marker_there e) c.if2.true)
+    end_far (found c.before.before.before.before.before) N some whole (marker_there c.before.before) c.if-length-gt-MAX_MESSAGE.true)
     (λ c N some whole.
-    let e = c.before.before in
-    let f = found e.before.before.before in
-    (end_near f N some whole (marker_there e) c.if2.false, end_at f N some whole (marker_there e))))
+    let f = found c.before.before.before.before.before in
+    (end_near f N some whole (marker_there c.before.before) c.if-length-gt-MAX_MESSAGE.false, end_at f N some whole (marker_there c.before.before))))

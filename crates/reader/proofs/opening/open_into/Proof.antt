@@ -56,80 +56,66 @@ rest_room : (start long : ℕ) (l : List ℕ) → start + long ≤ length l → 
 rest_room start long l h = rw (part_to_end l start, length-drop) (omega arith)
 
 -- the part that is lent has the blocks' bytes
-part_long : (c : tie.After-decode-arg)
-    → let a = c.before.before.before.before.before.before.args in
+part_long : (c : tie.After-decode-arg-1)
+    → let a = c.args in
     length (take (a.blocks * a.s.block) a.work.now) ≡ a.blocks * a.s.block
 part_long c =
-    let s = c.before.before.before.before.before.before in
-    length-take-le _ s.args.work.now s.requires.0.1
+    length-take-le _ c.args.work.now c.requires.0.1
 
-decoded_long : (c : tie.After-decode)
-    → let a = c.before.before.before.before.before.before.before.args in
-    length c.decode.new.1.1.1.1.1.1.1.1.0 ≡ a.blocks * a.s.block
-decoded_long c = c.decode.auto.1.1.1.1.1.1.1.1.0 ∙ part_long c.before
+decoded_long : (c : tie.After-decode-used)
+    → let a = c.args in
+    length c.decode-used.new.work ≡ a.blocks * a.s.block
+decoded_long c = c.decode-used.auto.work ∙ part_long c.before
 
-begin_long : (c : tie.After-decode)
-    → let a = c.before.before.before.before.before.before.before.args in
+begin_long : (c : tie.After-decode-used)
+    → let a = c.args in
     let n = a.blocks * a.s.block in
-    length (take n (c.decode.new.1.1.1.1.1.1.1.1.0 ++ drop n a.work.now)) ≡ n
-begin_long c = ap length (take_at c.decode.new.1.1.1.1.1.1.1.1.0 _ _ (decoded_long c)) ∙ decoded_long c
+    length (take n (c.decode-used.new.work ++ drop n a.work.now)) ≡ n
+begin_long c = ap length (take_at c.decode-used.new.work _ _ (decoded_long c)) ∙ decoded_long c
 
 -- the whole buffer after it: the range is inside
-work_room : (c : tie.After-decode)
-    → let a = c.before.before.before.before.before.before.before.args in
-    a.start + length a.out.now ≤ length (c.decode.new.1.1.1.1.1.1.1.1.0 ++ drop (a.blocks * a.s.block) a.work.now)
+work_room : (c : tie.After-decode-used)
+    → let a = c.args in
+    a.start + length a.out.now ≤ length (c.decode-used.new.work ++ drop (a.blocks * a.s.block) a.work.now)
 work_room c =
-    let s = c.before.before.before.before.before.before.before in
-    rw (length-append, decoded_long c) (omega (arith, s.requires.0.2))
+    rw (length-append, decoded_long c) (omega (arith, c.requires.0.2))
 
-pub open-into-spec : {M : Type 1} → statement M
-open-into-spec =
+pub open_into_spec : {M : Type 1} → statement M
+open_into_spec =
     tie.close
     (tie.spec
     (λ c. search rules)
     (λ c. search rules)
     (λ c. sym (part_long c))
     (λ c κs.
-    let s = c.before.before.before.before.before.before in
-    (all_read s.requires.0.0, s.requires.1.within, part_long c))
+    (all_read c.requires.0.0, c.requires.1.within, part_long c))
     (λ c. search rules)
-    (λ c. sym (begin_long c.before.before.before))
+    (λ c. sym (begin_long c.before.before))
     (λ c κs.
-    let d = c.before.before.before in
-    let s = d.before.before.before.before.before.before.before in
-    can_seek s.args.how s.args.s.block s.args.blocks s.args.start _ _ (A s.requires.0.0.counted).least.positive (begin_long d) s.requires.0.3)
+    can_seek c.args.how c.args.s.block c.args.blocks c.args.start _ _ (A c.requires.0.0.counted).least.positive (begin_long c.before.before) c.requires.0.3)
     (λ c. search rules)
     (λ c. search rules)
     (λ c. search rules)
     (λ c.
-    let e = c.before.before in
-    let d = e.before.before.before.before in
-    let s = d.before.before.before.before.before.before.before in
-    let a = s.args in (
-      d.decode.ensures.0,
+    let a = c.args in (
+      c.decode-used.ensures.0,
       λ B K points W X.
-          opened_none a.how a.s a.counts.now a.d a.blocks a.many a.start d.decode.new.1.1.1.1.1.1.1.1.0 _ B a.out.now e.end_by.result
-          s.requires.1 (d.decode.ensures.1 B K points W (sent_whole s.requires.0.0 X)) s.requires.0.2 X.blocks_are.0 (decoded_long d) s.requires.0.3 e.end_by.ensures c.enum_told.given.1,
+          opened_none a.how a.s a.counts.now a.d a.blocks a.many a.start c.decode-used.new.work _ B a.out.now c.end_by-end.result
+          c.requires.1 (c.decode-used.ensures.1 B K points W (sent_whole c.requires.0.0 X)) c.requires.0.2 X.blocks_are.0 (decoded_long c.before.before.before.before) c.requires.0.3 c.end_by-end.ensures c.in_default.is,
     ))
-    (λ c. omega (arith, work_room c.before.before.before.before.before.before.before))
-    (λ c. omega (arith, work_room c.before.before.before.before.before.before.before.before))
+    (λ c. omega (arith, work_room c.before.before.before.before))
+    (λ c. omega (arith, work_room c.before.before.before.before))
     (λ c. search rules)
     (λ c κs.
-    let d = c.before.before.before.before.before.before.before.before.before.before in
-    let a = d.before.before.before.before.before.before.before.args in
-    rest_room a.start (length a.out.now) (d.decode.new.1.1.1.1.1.1.1.1.0 ++ drop (a.blocks * a.s.block) a.work.now) (work_room d))
+    let a = c.args in
+    rest_room a.start (length a.out.now) (c.decode-used.new.work ++ drop (a.blocks * a.s.block) a.work.now) (work_room c.before.before.before.before.before.before))
     (λ c. search rules)
     (λ c. search rules)
     (λ c.
-    let f = c.before.before in
-    let k = f.before.before.before.before in
-    let e = k.before.before.before in
-    let d = e.before.before.before.before in
-    let s = d.before.before.before.before.before.before.before in
-    let a = s.args in (
-      d.decode.ensures.0,
+    let a = c.args in (
+      c.decode-used.ensures.0,
       λ B K points W X.
-          opened_some a.how a.s a.counts.now a.d a.blocks a.many a.start d.decode.new.1.1.1.1.1.1.1.1.0 _ B a.out.now e.end_by.result
-          s.requires.1 (d.decode.ensures.1 B K points W (sent_whole s.requires.0.0 X)) s.requires.0.2 X.blocks_are.0 (decoded_long d) s.requires.0.3 e.end_by.ensures _ _ k.before.end.given.1
-          (f.copy.ensures ∙ ap (take (length a.out.now)) (part_to_end _ a.start)),
+          opened_some a.how a.s a.counts.now a.d a.blocks a.many a.start c.decode-used.new.work _ B a.out.now c.end_by-end.result
+          c.requires.1 (c.decode-used.ensures.1 B K points W (sent_whole c.requires.0.0 X)) c.requires.0.2 X.blocks_are.0 (decoded_long c.before.before.before.before.before.before.before.before.before) c.requires.0.3 c.end_by-end.ensures _ _ c.in-At.is
+          (c.copy.ensures ∙ ap (take (length a.out.now)) (part_to_end _ a.start)),
     )))

@@ -5,5 +5,5 @@ use borrow.Author.Rules.{rules}
 use Rattle.reader.proofs.padded.reconstruct_padded_default.Statement.{statement}
 use Rattle.reader.proofs.padded.reconstruct_padded_default.Tie as tie
 
-pub reconstruct-padded-default-spec : {M : Type 1} → statement M
-reconstruct-padded-default-spec = tie.close (tie.spec (λ c. search rules) (λ c κs. search rules) (λ c. search rules) (λ c. c.before.before.reconstruct-padded.ensures))
+pub reconstruct_padded_default_spec : {M : Type 1} → statement M
+reconstruct_padded_default_spec = tie.close (tie.spec (λ c. search rules) (λ c κs. search rules) (λ c. search rules) (λ c. c.reconstruct_padded.ensures))

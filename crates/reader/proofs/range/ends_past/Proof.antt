@@ -16,12 +16,12 @@ taken_away a b c h =
     (λ (l : b + c ≤ a). le-ltb (a - b) c (omega arith) ∙ sym (le-ltb a (b + c) l))
     (lt_or_le a (b + c))
 
-pub ends-past-spec : {M : Type 1} → statement M
-ends-past-spec =
+pub ends_past_spec : {M : Type 1} → statement M
+ends_past_spec =
     tie.close
     (tie.spec (λ c.
-    let a = c.before.args in
-    sym (lt-ltb a.message (a.start + a.range_length) (omega (arith, c.if1.true))))
+    let a = c.args in
+    sym (lt-ltb a.message (a.start + a.range_length) (omega (arith, c.if-message-start.true))))
     (λ c.
-    let a = c.before.args in
-    taken_away a.message a.start a.range_length c.if1.false))
+    let a = c.args in
+    taken_away a.message a.start a.range_length c.if-message-start.false))

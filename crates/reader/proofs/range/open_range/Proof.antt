@@ -31,8 +31,8 @@ use Rattle.reader.proofs.range.open_range.Statement.{statement}
 use Rattle.reader.proofs.range.open_range.Tie as tie
 
 -- past the let-else: what holds of the accepted scheme, and what the next tests ask
-module _ (c : tie.After-ends-past) where
-  abbrev told : tie.After-known-told
+module _ (c : tie.After-ends_past-past) where
+  abbrev told : tie.In-Accepted
   told = c.before.before.before
 
   abbrev st : tie.Start
@@ -45,36 +45,36 @@ module _ (c : tie.After-ends-past) where
   d = length st.args.parties.now
 
   abbrev scheme : Scheme
-  scheme = told.before.answer.given.0.0
+  scheme = told.in-Accepted.s
 
   is : SchemeIs scheme p.n p.r p.z p.counts
-  is = accepted-scheme told.before.before.before.check.ensures told.before.answer.given.1
+  is = accepted-scheme told.check-answer.ensures told.in-Accepted.is
 
-  count-test : not (occurs d p.counts) ≡ not c.before.before.is-count.result
-  count-test = ap not (sym c.before.before.is-count.ensures)
+  count-test : not (occurs d p.counts) ≡ not c.is_count-counted.result
+  count-test = ap not (sym c.is_count-counted.ensures)
 
-  rising-test : readers_refused p.n st.args.parties.now ≡ c.before.readers-refused.result
-  rising-test = sym c.before.readers-refused.ensures
+  rising-test : readers_refused p.n st.args.parties.now ≡ c.readers_refused-unordered.result
+  rising-test = sym c.readers_refused-unordered.ensures
 
-  past_test : ltb st.args.message-length (st.args.start + st.args.range_length) ≡ c.ends-past.result
-  past_test = sym c.ends-past.ensures
+  past_test : ltb st.args.message-length (st.args.start + st.args.range_length) ≡ c.ends_past-past.result
+  past_test = sym c.ends_past-past.ensures
 
 -- past refusal 15
-module _ (c : tie.Else4) where
-  abbrev tests : tie.After-ends-past
+module _ (c : tie.Else-past) where
+  abbrev tests : tie.After-ends_past-past
   tests = c.before.before.before.before
 
   short : (st tests).args.message-length ≤ max_message
-  short = c.before.before.before.if1.false
+  short = c.if-message_length-gt-MAX_MESSAGE.false
 
   counted : occurs (d tests) (p tests).counts ≡ true
-  counted = not-false _ (count-test tests ∙ c.before.before.if2.false)
+  counted = not-false _ (count-test tests ∙ (ap not c.if-not-counted.false))
 
   rising : readers_refused (p tests).n (st tests).args.parties.now ≡ false
-  rising = rising-test tests ∙ c.before.if3.false
+  rising = rising-test tests ∙ c.if-unordered.false
 
   inside : (st tests).args.start + (st tests).args.range_length ≤ (st tests).args.message-length
-  inside = ltb-false _ _ (past_test tests ∙ c.if4.false)
+  inside = ltb-false _ _ (past_test tests ∙ c.if-past.false)
 
   -- and so past the lines before 9
   to_slices : {vs qs : List ℕ} {o : Outcome} → Way vs qs o
@@ -87,90 +87,60 @@ module _ (c : tie.Else4) where
       ∷ qs) o
   to_slices w =
       pass (is tests).passed
-      (pass_within 5 short (pass_false 6 (ap not counted) (pass_false 7 rising (pass_false 15 (past_test tests ∙ c.if4.false) w))))
+      (pass_within 5 short (pass_false 6 (ap not counted) (pass_false 7 rising (pass_false 15 (past_test tests ∙ c.if-past.false) w))))
 
 -- what is tested for refusal 9
-sent_are : (c : tie.After-rows-of-count)
+sent_are : (c : tie.After-rows_of_count)
     → let o = tests c.before.before in
-    d o * c.rows_of-count.result * c.before.block-count.result ≡ prefix_bytes (p o) (d o) (blocks_of (p o) (st o).args.message-length)
+    d o * c.rows_of_count.result * c.block_count-blocks.result ≡ prefix_bytes (p o) (d o) (blocks_of (p o) (st o).args.message-length)
 sent_are c =
-    let o = tests c.before.before in
-    bytes_are _ _ (is o) _ _ c.rows_of-count.ensures _ ∙ ap (prefix_bytes _ _) (blocks_are _ _ (is o) _ _ c.before.block-count.ensures)
+    bytes_are _ _ (is (tests c.before.before)) _ _ c.rows_of_count.ensures _ ∙ ap (prefix_bytes _ _) (blocks_are _ _ (is (tests c.before.before)) _ _ c.block_count-blocks.ensures)
 
-pub open-range-spec : {M : Type 1} → statement M
+pub open_range_spec : {M : Type 1} → statement M
 unfolding range_refusal opened_answer range_output
-open-range-spec =
+open_range_spec =
     tie.close
     (tie.spec
     (λ c κs. search rules)
     (λ c. search rules)
     (λ c. search rules)
     (λ c κs. search rules)
-    (λ c. refuses _ (stop_scheme _ _ _ _ c.before.before.before.check.ensures c.before.enum_told.given.1 c.refusal.ensures))
+    (λ c. refuses _ (stop_scheme _ _ _ _ c.check-answer.ensures c.in_default.is c.refusal.ensures))
     (λ c κs. search rules)
     (λ c κs. search rules)
     (λ c κs. search rules)
-    (λ c. refuses _ (pass (is c.before).passed (stop_over c.if1.true)))
+    (λ c. refuses _ (pass (is c.before).passed (stop_over c.if-message_length-gt-MAX_MESSAGE.true)))
     (λ c.
-    let e = c.before in
-    let o = e.before in
-    refuses _ (pass (is o).passed (pass_within 5 e.if1.false (stop_true (count-test o ∙ c.if2.true)))))
+    refuses _ (pass (is c.before.before).passed (pass_within 5 c.if-message_length-gt-MAX_MESSAGE.false (stop_true (count-test c.before.before ∙ (ap not c.if-not-counted.true))))))
     (λ c.
-    let f = c.before in
-    let e = f.before in
-    let o = e.before in
-    refuses _ (pass (is o).passed (pass_within 5 e.if1.false (pass_false 6 (count-test o ∙ f.if2.false) (stop_true (rising-test o ∙ c.if3.true))))))
+    refuses _ (pass (is c.before.before.before).passed (pass_within 5 c.if-message_length-gt-MAX_MESSAGE.false (pass_false 6 (count-test c.before.before.before ∙ (ap not c.if-not-counted.false)) (stop_true (rising-test c.before.before.before ∙ c.if-unordered.true))))))
     (λ c.
-    let h = c.before in
-    let f = h.before in
-    let e = f.before in
-    let o = e.before in
     refuses _
-    (pass (is o).passed
-    (pass_within 5 e.if1.false
-    (pass_false 6 (count-test o ∙ f.if2.false) (pass_false 7 (rising-test o ∙ h.if3.false) (stop_true (past_test o ∙ c.if4.true)))))))
+    (pass (is c.before.before.before.before).passed
+    (pass_within 5 c.if-message_length-gt-MAX_MESSAGE.false
+    (pass_false 6 (count-test c.before.before.before.before ∙ (ap not c.if-not-counted.false)) (pass_false 7 (rising-test c.before.before.before.before ∙ c.if-unordered.false) (stop_true (past_test c.before.before.before.before ∙ c.if-past.true)))))))
     (λ c κs. search rules)
     (λ c κs. search rules)
     (λ c.
-    let e = c.before.before in
-    let o = tests e in
-    omega (arith, rows_small _ _ (is o) _ _ c.rows_of-count.ensures (count_most _ (is o).passed _ (counted e))))
+    omega (arith, rows_small _ _ (is (tests c.before.before)) _ _ c.rows_of_count.ensures (count_most _ (is (tests c.before.before)).passed _ (counted c.before.before))))
     (λ c.
-    let b = c.before in
-    let e = b.before in
-    let o = tests e in
-    omega (arith, bytes_small _ _ (is o) _ _ c.rows_of-count.ensures (count_most _ (is o).passed _ (counted e)) _ (blocks_few _ _ (is o) _ _ b.block-count.ensures (short e))))
-    (λ c. refuses _ (to_slices c.before.before.before (stop_other (λ q. c.if5.true (q ∙ sym (sent_are c.before))))))
+    omega (arith, bytes_small _ _ (is (tests c.before.before)) _ _ c.rows_of_count.ensures (count_most _ (is (tests c.before.before)).passed _ (counted c.before.before)) _ (blocks_few _ _ (is (tests c.before.before)) _ _ c.block_count-blocks.ensures (short c.before.before))))
+    (λ c. refuses _ (to_slices c.before.before.before (stop_other (λ q. c.if-prefixes-sent.true (q ∙ sym (sent_are c.before))))))
     (λ c.
-    let p = c.before in
-    refuses _ (to_slices p.before.before.before (pass_same 9 (p.if5.false ∙ sent_are p.before) (stop_other c.if6.true))))
+    refuses _ (to_slices c.before.before.before.before (pass_same 9 (c.if-prefixes-sent.false ∙ sent_are c.before.before) (stop_other c.if-out-range_length.true))))
     (λ c κs.
-    let e = c.before.before.before.before in
-    counted_of (is (tests e)) (counted e))
+    counted_of (is (tests c.before.before.before.before)) (counted c.before.before.before.before))
     (λ c κs.
-    let k = c.before in
-    let o = k.before in
-    let q = o.before in
-    let w = q.before in
-    let e = w.before.before in
-    let t = tests e in
-    let C = counted_of (is t) (counted e) in (
-      (C, rw (is t).n_is (rising e)),
+    let C = counted_of (is (tests c.before.before.before.before.before.before)) (counted c.before.before.before.before.before.before) in (
+      (C, rw (is (tests c.before.before.before.before.before.before)).n_is (rising c.before.before.before.before.before.before)),
       (
-        told_fits _ _ (is t) _ _ w.before.block-count.ensures (short e) _ _ _ _ (q.if5.false ∙ bytes_parts _ _ (is t) _ _ w.rows_of-count.ensures _)
-            (rw o.if6.false (inside e)),
-        rw o.if6.false (turns_reach C (st t).args.take _ _ _ k.rows-by.ensures),
+        told_fits _ _ (is (tests c.before.before.before.before.before.before)) _ _ c.block_count-blocks.ensures (short c.before.before.before.before.before.before) _ _ _ _ (c.if-prefixes-sent.false ∙ bytes_parts _ _ (is (tests c.before.before.before.before.before.before)) _ _ c.rows_of_count.ensures _)
+            (rw c.if-out-range_length.false (inside c.before.before.before.before.before.before)),
+        rw c.if-out-range_length.false (turns_reach C (st (tests c.before.before.before.before.before.before)).args.take _ _ _ c.rows_by-many.ensures),
       ),
     ))
     (λ c. search rules)
     (λ c.
-    let u = c.before.before in
-    let k = u.before.before in
-    let o = k.before in
-    let q = o.before in
-    let w = q.before in
-    let e = w.before.before in
-    let t = tests e in
-    let none = numbered (to_slices e (pass_same 9 (q.if5.false ∙ sent_are w) (pass_same 10 o.if6.false done))) in
-    opens _ _ (is t) (st t).args.take _ _ _ _ _ (st t).args.out.now _ _ w.before.block-count.ensures k.rows-by.ensures none o.if6.false (inside e) _ _ _
-    u.open.ensures.0 u.open.ensures.1))
+    let none = numbered (to_slices c.before.before.before.before.before.before.before.before.before (pass_same 9 (c.if-prefixes-sent.false ∙ sent_are c.before.before.before.before.before.before.before) (pass_same 10 c.if-out-range_length.false done))) in
+    opens _ _ (is (tests c.before.before.before.before.before.before.before.before.before)) (st (tests c.before.before.before.before.before.before.before.before.before)).args.take _ _ _ _ _ (st (tests c.before.before.before.before.before.before.before.before.before)).args.out.now _ _ c.block_count-blocks.ensures c.rows_by-many.ensures none c.if-out-range_length.false (inside c.before.before.before.before.before.before.before.before.before) _ _ _
+    c.open-found.ensures.0 c.open-found.ensures.1))

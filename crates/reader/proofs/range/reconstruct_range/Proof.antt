@@ -6,12 +6,12 @@ use Rattle.reader.proofs.RangeAnswers.{needed-answer}
 use Rattle.reader.proofs.range.reconstruct_range.Statement.{statement}
 use Rattle.reader.proofs.range.reconstruct_range.Tie as tie
 
-pub reconstruct-range-spec : {M : Type 1} → statement M
-reconstruct-range-spec =
+pub reconstruct_range_spec : {M : Type 1} → statement M
+reconstruct_range_spec =
     tie.close
     (tie.spec
     (λ c κs. search rules)
     (λ c. search rules)
     (λ c.
-    let call = c.before.before.open-range.ensures in
+    let call = c.open_range.ensures in
     (call.0 ∙ needed-answer _ _ _ _ _ _ _, call.1)))

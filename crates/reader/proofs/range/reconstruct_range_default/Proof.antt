@@ -5,6 +5,6 @@ use borrow.Author.Rules.{rules}
 use Rattle.reader.proofs.range.reconstruct_range_default.Statement.{statement}
 use Rattle.reader.proofs.range.reconstruct_range_default.Tie as tie
 
-pub reconstruct-range-default-spec : {M : Type 1} → statement M
-reconstruct-range-default-spec =
-    tie.close (tie.spec (λ c. search rules) (λ c κs. search rules) (λ c. search rules) (λ c. c.before.before.reconstruct-range.ensures))
+pub reconstruct_range_default_spec : {M : Type 1} → statement M
+reconstruct_range_default_spec =
+    tie.close (tie.spec (λ c. search rules) (λ c κs. search rules) (λ c. search rules) (λ c. c.reconstruct_range.ensures))

@@ -25,57 +25,57 @@ use Rattle.reader.proofs.rebuilding.rebuild.Statement.{statement}
 use Rattle.reader.proofs.rebuilding.rebuild.Tie as tie
 
 -- past the let-else: what holds of the accepted scheme
-module _ (c : tie.After-known-told) where
+module _ (c : tie.In-Accepted) where
   abbrev st : tie.Start
-  st = c.before.before.before.before.before.before.before.before.before
+  st = c.before.before.before.before.before.before.before
 
   abbrev p : Parameters
   p = parameters st.args.n st.args.r st.args.z st.args.counts.now
 
   abbrev scheme : Scheme
-  scheme = c.before.answer.given.0.0
+  scheme = c.in-Accepted.s
 
   is : SchemeIs scheme p.n p.r p.z p.counts
-  is = accepted-scheme c.before.before.before.check.ensures c.before.answer.given.1
+  is = accepted-scheme c.check-answer.ensures c.in-Accepted.is
 
 -- past refusal 7 of the list
-module _ (c : tie.Else1) where
-  abbrev told : tie.After-known-told
+module _ (c : tie.Else-readers_refused) where
+  abbrev told : tie.In-Accepted
   told = c.before.before
 
   rising : readers_refused (p told).n (st told).args.parties.now ≡ false
-  rising = sym c.before.readers-refused.ensures ∙ c.if1.false
+  rising = sym c.readers_refused.ensures ∙ c.if-readers_refused.false
 
 -- past refusal 17
-module _ (c : tie.Else3) where
-  abbrev ordered : tie.Else1
+module _ (c : tie.Else-many-n) where
+  abbrev ordered : tie.Else-readers_refused
   ordered = c.before.before.before
 
-  abbrev known : tie.After-known-told
+  abbrev known : tie.In-Accepted
   known = told ordered
 
   wanted : wanted_refused (p known).n (st known).args.party ≡ false
-  wanted = sym c.before.before.wanted-refused.ensures ∙ c.before.if2.false
+  wanted = sym c.wanted_refused.ensures ∙ c.if-wanted_refused.false
 
   many : (p known).n - (p known).r ≤ length (st known).args.parties.now
-  many = c.if3.false
+  many = c.if-many-n.false
 
 -- the blocks that the length of the shares tells
-module _ (c : tie.After-blocks-held) where
-  abbrev enough : tie.Else3
+module _ (c : tie.After-blocks_held-blocks) where
+  abbrev enough : tie.Else-many-n
   enough = c.before.before.before
 
-  abbrev k : tie.After-known-told
+  abbrev k : tie.In-Accepted
   k = known enough
 
   abbrev N : ℕ
-  N = c.blocks-held.result
+  N = c.blocks_held-blocks.result
 
   abbrev lent : ℕ
   lent = blocks_lent (p k) (length (st k).args.parties.now) (length (st k).args.shares.now)
 
   held_is : N ≡ blocks_held (most_padded (scheme k).block) (length (st k).args.parties.now * (scheme k).rows) (length (st k).args.shares.now)
-  held_is = rw (← c.before.before.most-blocks.ensures) c.blocks-held.ensures
+  held_is = rw (← c.most_blocks-most.ensures) c.blocks_held-blocks.ensures
 
   N_is : N ≡ lent
   N_is = blocks_are (p k) (scheme k) (is k) _ _ N held_is
@@ -95,89 +95,64 @@ module _ (c : tie.After-blocks-held) where
   passed way = pass (is k).passed (pass_false 7 (rising (ordered enough)) (pass_false 7 (wanted enough) (pass_false 17 (le-ltb _ _ (many enough)) way)))
 
 -- what is tested for the second of refusal 9
-copy_test : (c : tie.After-held-refused)
+copy_test : (c : tie.After-held_refused-unlike)
     → let h = c.before.before in
-    held_refused (length (st (k h)).args.held.now) (share_bytes (p (k h)) (lent h)) ≡ c.held-refused.result
-copy_test c = ap (held_refused _) (sym (size c.before.before)) ∙ sym c.held-refused.ensures
+    held_refused (length (st (k h)).args.held.now) (share_bytes (p (k h)) (lent h)) ≡ c.held_refused-unlike.result
+copy_test c = ap (held_refused _) (sym (size c.before.before)) ∙ sym c.held_refused-unlike.ensures
 
 -- past the first
-module _ (c : tie.Else4) where
-  abbrev held : tie.After-blocks-held
+module _ (c : tie.Else-shares-many) where
+  abbrev held : tie.After-blocks_held-blocks
   held = c.before.before.before
 
   long : length (st (k held)).args.shares.now ≡ length (st (k held)).args.parties.now * share_bytes (p (k held)) (lent held)
-  long = c.if4.false ∙ ap (λ (x : ℕ). length (st (k held)).args.parties.now * x) (size held)
+  long = c.if-shares-many.false ∙ ap (λ (x : ℕ). length (st (k held)).args.parties.now * x) (size held)
 
-pub rebuild-spec : {M : Type 1} → statement M
+pub rebuild_spec : {M : Type 1} → statement M
 unfolding lent_refusal rebuild_answer rebuild_output
-rebuild-spec =
+rebuild_spec =
     tie.close
     (tie.spec
     (λ c κs. search rules)
     (λ c. search rules)
     (λ c. search rules)
     (λ c κs. search rules)
-    (λ c. turns_away _ _ (stop_scheme _ _ _ _ c.before.before.before.check.ensures c.before.enum_told.given.1 c.refusal.ensures))
+    (λ c. turns_away _ _ (stop_scheme _ _ _ _ c.check-answer.ensures c.in_default.is c.refusal.ensures))
     (λ c κs. search rules)
     (λ c.
-    let r = c.before in
-    turns_away _ _ (pass (is r.before).passed (stop_true (sym r.readers-refused.ensures ∙ c.if1.true))))
+    turns_away _ _ (pass (is c.before.before).passed (stop_true (sym c.readers_refused.ensures ∙ c.if-readers_refused.true))))
     (λ c κs. search rules)
     (λ c.
-    let w = c.before in
-    let e = w.before in
-    turns_away _ _ (pass (is (told e)).passed (pass_false 7 (rising e) (stop_true (sym w.wanted-refused.ensures ∙ c.if2.true)))))
+    turns_away _ _ (pass (is (told c.before.before)).passed (pass_false 7 (rising c.before.before) (stop_true (sym c.wanted_refused.ensures ∙ c.if-wanted_refused.true)))))
     (λ c.
-    let t = told c.before.before in
-    lost_low (p t) (scheme t) (is t))
+    lost_low (p (told c.before.before)) (scheme (told c.before.before)) (is (told c.before.before)))
     (λ c.
-    let t = c.before in
-    let w = t.before in
-    let e = w.before in
     turns_away _ _
-    (pass (is (told e)).passed
-    (pass_false 7 (rising e) (pass_false 7 (sym w.wanted-refused.ensures ∙ t.if2.false) (stop_true (lt-ltb _ _ c.if3.true))))))
+    (pass (is (told c.before.before.before)).passed
+    (pass_false 7 (rising c.before.before.before) (pass_false 7 (sym c.wanted_refused.ensures ∙ c.if-wanted_refused.false) (stop_true (lt-ltb _ _ c.if-many-n.true))))))
     (λ c κs. search rules)
     (λ c.
-    let e = c.before.before in
-    let t = known e in
-    omega (arith, unit_few (p t) (scheme t) (is t) (st t).args.parties.now (rising (ordered e))))
+    omega (arith, unit_few (p (known c.before.before)) (scheme (known c.before.before)) (is (known c.before.before)) (st (known c.before.before)).args.parties.now (rising (ordered c.before.before))))
     (λ c κs. search rules)
     (λ c.
-    let h = c.before in
-    omega (arith, size_small (p (k h)) (scheme (k h)) (is (k h)) _ _ (N h) (held_is h)))
+    omega (arith, size_small (p (k c.before)) (scheme (k c.before)) (is (k c.before)) _ _ (N c.before) (held_is c.before)))
     (λ c κs. search rules)
     (λ c.
-    let h = c.before.before in
-    let list = (st (k h)).args.parties.now in
-    omega (arith, all_small (p (k h)) (scheme (k h)) (is (k h)) _ _ (N h) (held_is h) list refl (rising (ordered (enough h)))))
+    let list = (st (k c.before.before)).args.parties.now in
+    omega (arith, all_small (p (k c.before.before)) (scheme (k c.before.before)) (is (k c.before.before)) _ _ (N c.before.before) (held_is c.before.before) list refl (rising (ordered (enough c.before.before)))))
     (λ c.
-    let h = c.before.before.before in
-    let list = (st (k h)).args.parties.now in
-    turns_away _ _ (passed h (stop_other (λ q. c.if4.true (q ∙ ap (λ (x : ℕ). length list * x) (sym (size h)))))))
+    let list = (st (k c.before.before.before)).args.parties.now in
+    turns_away _ _ (passed c.before.before.before (stop_other (λ q. c.if-shares-many.true (q ∙ ap (λ (x : ℕ). length list * x) (sym (size c.before.before.before)))))))
     (λ c.
-    let e = c.before in
-    turns_away _ _ (passed (held e) (pass_same 9 (long e) (stop_true (copy_test e.before ∙ c.if5.true)))))
+    turns_away _ _ (passed (held c.before) (pass_same 9 (long c.before) (stop_true (copy_test c.before.before ∙ c.if-unlike.true)))))
     (λ c.
-    let f = c.before in
-    let e = f.before in
-    let h = held e in
-    turns_away _ _ (passed h (pass_same 9 (long e) (pass_false 9 (copy_test e.before ∙ f.if5.false) (stop_other (λ q. c.if6.true (q ∙ sym (size h))))))))
+    turns_away _ _ (passed (held c.before.before) (pass_same 9 (long c.before.before) (pass_false 9 (copy_test c.before.before.before ∙ c.if-unlike.false) (stop_other (λ q. c.if-out-size.true (q ∙ sym (size (held c.before.before)))))))))
     (λ c κs.
-    let o = c.before in
-    let e = o.before.before in
-    let h = held e in
-    let t = k h in (
-      lends (p t) (scheme t) (is t) (st t).args.parties.now (st t).args.shares.now (N h) (rising (ordered (enough h))) (many (enough h)) (blocks_high (p t) (scheme t) (is t) _ _ (N h) (held_is h)) e.if4.false,
-      (room_fits (p t) (scheme t) (is t) _ _ (N h) (held_is h), o.if6.false ∙ mul_comm (N h) (scheme t).rows),
+    (
+      lends (p (k (held c.before.before.before))) (scheme (k (held c.before.before.before))) (is (k (held c.before.before.before))) (st (k (held c.before.before.before))).args.parties.now (st (k (held c.before.before.before))).args.shares.now (N (held c.before.before.before)) (rising (ordered (enough (held c.before.before.before)))) (many (enough (held c.before.before.before))) (blocks_high (p (k (held c.before.before.before))) (scheme (k (held c.before.before.before))) (is (k (held c.before.before.before))) _ _ (N (held c.before.before.before)) (held_is (held c.before.before.before))) c.if-shares-many.false,
+      (room_fits (p (k (held c.before.before.before))) (scheme (k (held c.before.before.before))) (is (k (held c.before.before.before))) _ _ (N (held c.before.before.before)) (held_is (held c.before.before.before)), c.if-out-size.false ∙ mul_comm (N (held c.before.before.before)) (scheme (k (held c.before.before.before))).rows),
     ))
     (λ c. search rules)
     (λ c.
-    let u = c.before.before in
-    let o = u.before.before in
-    let f = o.before in
-    let e = f.before in
-    let h = held e in
-    let t = k h in
-    let none = numbered (passed h (pass_same 9 (long e) (pass_false 9 (copy_test e.before ∙ f.if5.false) (pass_same 10 (o.if6.false ∙ size h) done)))) in
-    ends (p t) (scheme t) (is t) (st t).args.parties.now (st t).args.shares.now (st t).args.party (st t).args.held.now (st t).args.out.now (N h) (N_is h) none u.rebuild-agreeing.result _ u.rebuild-agreeing.ensures))
+    let none = numbered (passed (held c.before.before.before.before.before.before) (pass_same 9 (long c.before.before.before.before.before.before) (pass_false 9 (copy_test c.before.before.before.before.before.before.before ∙ c.if-unlike.false) (pass_same 10 (c.if-out-size.false ∙ size (held c.before.before.before.before.before.before)) done)))) in
+    ends (p (k (held c.before.before.before.before.before.before))) (scheme (k (held c.before.before.before.before.before.before))) (is (k (held c.before.before.before.before.before.before))) (st (k (held c.before.before.before.before.before.before))).args.parties.now (st (k (held c.before.before.before.before.before.before))).args.shares.now (st (k (held c.before.before.before.before.before.before))).args.party (st (k (held c.before.before.before.before.before.before))).args.held.now (st (k (held c.before.before.before.before.before.before))).args.out.now (N (held c.before.before.before.before.before.before)) (N_is (held c.before.before.before.before.before.before)) none c.rebuild_agreeing.result _ c.rebuild_agreeing.ensures))

@@ -8,23 +8,22 @@ use Rattle.scheme.specs.Limits.{max_block, max_message}
 use Rattle.reader.proofs.rebuilding.rebuild_agreeing.Statement.{statement}
 use Rattle.reader.proofs.rebuilding.rebuild_agreeing.Tie as tie
 
-abbrev start : tie.After-struct-known → tie.Start
+abbrev start : tie.After-struct_known-1 → tie.Start
 start c = c.before.before.before.before.before.before
 
-pub rebuild-agreeing-spec : {M : Type 1} → statement M
-rebuild-agreeing-spec =
+pub rebuild_agreeing_spec : {M : Type 1} → statement M
+rebuild_agreeing_spec =
     tie.close
     (tie.spec
     (λ c. omega (arith, (start c).requires.1.0.blocks_fit))
     (λ c. search rules)
     (λ c. search rules)
     (λ c κs.
-    let t = c.before.before.before in
-    let h = (start t.before).requires in
+    let h = (start c.before.before.before.before).requires in
     let long = length-replicate {A = ℕ} 2048 0 in
-    (h.0, (omega (arith, t.if1.true), omega (arith, t.if1.true, h.1.0.share_fits), h.1.1)))
+    (h.0, (omega (arith, c.if-blocks-s-le-SMALL.true), omega (arith, c.if-blocks-s-le-SMALL.true, h.1.0.share_fits), h.1.1)))
     (λ c. search rules)
-    (λ c. c.before.before.before.before.rebuild-in.ensures)
+    (λ c. c.rebuild_in.ensures)
     (λ c. search rules)
     (λ c. search rules)
     (λ c κs.
@@ -32,4 +31,4 @@ rebuild-agreeing-spec =
     let long = length-replicate {A = ℕ} (max_message + max_block) 0 in
     (h.0, (omega (arith, h.1.0.blocks_fit), omega (arith, h.1.0.blocks_fit, h.1.0.share_fits), h.1.1)))
     (λ c. search rules)
-    (λ c. c.before.before.before.before.rebuild-in2.ensures))
+    (λ c. c.rebuild_in-2.ensures))

@@ -5,5 +5,5 @@ use borrow.Author.Rules.{rules}
 use Rattle.reader.proofs.rebuilding.rebuild_default.Statement.{statement}
 use Rattle.reader.proofs.rebuilding.rebuild_default.Tie as tie
 
-pub rebuild-default-spec : {M : Type 1} → statement M
-rebuild-default-spec = tie.close (tie.spec (λ c. search rules) (λ c κs. search rules) (λ c. search rules) (λ c. c.before.before.rebuild.ensures))
+pub rebuild_default_spec : {M : Type 1} → statement M
+rebuild_default_spec = tie.close (tie.spec (λ c. search rules) (λ c κs. search rules) (λ c. search rules) (λ c. c.rebuild.ensures))

@@ -6,26 +6,23 @@ use borrow.Author.Rules.{rules}
 use Rattle.reader.proofs.rebuilding.rebuild_in.Statement.{statement}
 use Rattle.reader.proofs.rebuilding.rebuild_in.Tie as tie
 
-abbrev start : tie.After-struct-known2 → tie.Start
+abbrev start : tie.After-struct_known-2-1 → tie.Start
 start c = c.before.before.before.before.before.before.before.before.before
 
-pub rebuild-in-spec : {M : Type 1} → statement M
-rebuild-in-spec =
+pub rebuild_in_spec : {M : Type 1} → statement M
+rebuild_in_spec =
     tie.close
     (tie.spec
     (λ c. search rules)
     (λ c. search rules)
     (λ c. search rules)
     (λ c.
-    let s = start c.before in
-    sym (length-take-le _ s.args.work.now s.pre.1.0))
+    sym (length-take-le _ (start c.before).args.work.now (start c.before).requires.1.0))
     (λ c. search rules)
     (λ c.
-    let s = start c.before.before in
-    sym (length-take-le _ s.args.share.now s.pre.1.1))
+    sym (length-take-le _ (start c.before.before).args.share.now (start c.before.before).requires.1.1))
     (λ c κs.
-    let s = start c.before.before.before in
-    (s.pre.0, (length-take-le _ s.args.work.now s.pre.1.0, length-take-le _ s.args.share.now s.pre.1.1, s.pre.1.2)))
+    ((start c.before.before.before).requires.0, (length-take-le _ (start c.before.before.before).args.work.now (start c.before.before.before).requires.1.0, length-take-le _ (start c.before.before.before).args.share.now (start c.before.before.before).requires.1.1, (start c.before.before.before).requires.1.2)))
     (λ c. search rules)
     (λ c. search rules)
     (λ c. search rules)

@@ -8,48 +8,37 @@ use Rattle.reader.proofs.Lending.{agrees_whole, rebuilt_whole}
 use Rattle.reader.proofs.rebuilding.rebuild_with.Statement.{statement}
 use Rattle.reader.proofs.rebuilding.rebuild_with.Tie as tie
 
-abbrev start : tie.After-first-weights → tie.Start
+abbrev start : tie.After-first_weights-weights → tie.Start
 start c = c.before.before.before.before.before.before.before.before
 
-abbrev weighed : tie.After-agree → tie.After-first-weights
+abbrev weighed : tie.After-agree → tie.After-first_weights-weights
 weighed c = c.before.before.before.before
 
-pub rebuild-with-spec : {M : Type 1} → statement M
-rebuild-with-spec =
+pub rebuild_with_spec : {M : Type 1} → statement M
+rebuild_with_spec =
     tie.close
     (tie.spec
     (λ c κs. search rules)
     (λ c κs.
-    let f = c.before.before.before in
-    let s = start f in
-    ((s.pre.0, f.first-weights.ensures), (s.pre.1.0, s.pre.1.1)))
+    (((start c.before.before.before).requires.0, c.first_weights-weights.ensures), ((start c.before.before.before).requires.1.0, (start c.before.before.before).requires.1.1)))
     (λ c κs.
-    let a = c.before.before.before.before.before.before.before in
-    let s = start (weighed a) in
-    (s.pre.0, (a.agree.auto.1.1.1.1.1.1.1.0 ∙ s.pre.1.0, a.agree.auto.1.1.1.1.1.1.1.1.0 ∙ s.pre.1.1)))
+    let s = start (weighed c.before.before.before.before.before.before.before) in
+    (s.requires.0, (c.agree.auto.work ∙ s.requires.1.0, c.agree.auto.share ∙ s.requires.1.1)))
     (λ c. search rules)
     (λ c. search rules)
     (λ c.
-    let n = c.before.before.before.before in
-    let t = n.before.before.before in
-    let a = t.before.before.before.before.before in
-    (sym (agrees_whole (start (weighed a)).requires.0) ∙ sym a.agree.ensures.0 ∙ not-true _ t.if1.true, n.name.ensures, refl))
+    (sym (agrees_whole (start (weighed c.before.before.before.before.before.before.before.before.before.before.before.before)).requires.0) ∙ sym c.agree.ensures.0 ∙ c.if-not-agree.true, c.name.ensures, refl))
     (λ c κs.
-    let e = c.before.before.before in
-    let a = e.before.before.before.before.before in
-    let s = start (weighed a) in
-    ((s.pre.0, (weighed a).first-weights.ensures), (a.agree.ensures.1, s.pre.1.2)))
+    let s = start (weighed c.before.before.before.before.before.before.before) in
+    ((s.requires.0, (weighed c.before.before.before.before.before.before.before).first_weights-weights.ensures), (c.agree.ensures.1, s.requires.1.2)))
     (λ c κs. search rules)
     (λ c. search rules)
     (λ c. search rules)
     (λ c. search rules)
     (λ c.
-    let r = c.before.before.before.before in
-    let e = r.before.before.before.before in
-    let a = e.before.before.before.before.before in
-    let s = start (weighed a) in
-    let is = r.rebuild-share.ensures ∙ rebuilt_whole s.pre.0 s.args.party in (
-      sym (agrees_whole s.pre.0) ∙ sym a.agree.ensures.0 ∙ not-false _ e.if1.false,
+    let s = start (weighed c.before.before.before.before.before.before.before.before.before.before.before) in
+    let is = c.rebuild_share.ensures ∙ rebuilt_whole s.requires.0 s.args.party in (
+      sym (agrees_whole s.requires.0) ∙ sym c.agree.ensures.0 ∙ c.if-not-agree.false,
       c.differing.ensures ∙ ap (differing s.args.held.now) is,
       is,
     )))

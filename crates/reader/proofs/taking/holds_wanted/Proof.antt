@@ -10,52 +10,49 @@ use Rattle.reader.proofs.TurnSearch.{NonePassed, none_passed, wanted_here}
 use Rattle.reader.proofs.taking.holds_wanted.Statement.{statement}
 use Rattle.reader.proofs.taking.holds_wanted.Tie as tie
 
-abbrev invariant-loop : tie.invariant-loop
-invariant-loop places z d block from range_length e₀ e = (z ≤ e) × NonePassed block from range_length z places e
+abbrev invariant-loop-e : tie.invariant-loop-e
+invariant-loop-e places z d block from range_length e₀ e = (z ≤ e) × NonePassed block from range_length z places e
 
-abbrev decreases-loop : tie.decreases-loop
-decreases-loop places z d block from range_length e₀ e = d - e
+abbrev decreases-loop-e : tie.decreases-loop-e
+decreases-loop-e places z d block from range_length e₀ e = d - e
 
 -- the place of degree e is one of the block's
-module _ (c : tie.After-is-wanted invariant-loop decreases-loop) where
-  abbrev st : tie.Start invariant-loop decreases-loop
-  st = c.before.before.before.before
+module _ (c : tie.After-is_wanted invariant-loop-e decreases-loop-e) where
+  abbrev st : tie.Start invariant-loop-e decreases-loop-e
+  st = c.before.before.before.before.before
 
   abbrev at : ℕ
-  at = get_or st.args.places.now c.before.before.before.loop.e 0
+  at = get_or st.args.places.now c.loop-e.e 0
 
   below : at < st.args.block
-  below = st.pre.3 c.before.before.before.loop.e c.before.before.before.loop.invariant.0 c.before.before.loop-test.true
+  below = st.requires.3 c.loop-e.e c.loop-e.invariant.0 c.loop-e-test.true
 
-pub holds-wanted-spec : {M : Type 1} → statement M
-holds-wanted-spec =
+pub holds_wanted_spec : {M : Type 1} → statement M
+holds_wanted_spec =
     tie.close
-    (tie.spec invariant-loop decreases-loop
+    (tie.spec invariant-loop-e decreases-loop-e
     (λ c. (omega arith, λ start f is low high. absurd (omega arith)))
     (λ c. search rules)
-    (λ c. omega (arith, c.before.before.requires.2))
+    (λ c. omega (arith, c.requires.2))
     (λ c κs.
-    let l = c.before.before in
-    (l.before.requires.0, l.before.requires.1, l.before.requires.3 l.loop.e l.loop.invariant.0 c.before.loop-test.true))
+    (c.requires.0, c.requires.1, c.requires.3 c.loop-e.e c.loop-e.invariant.0 c.loop-e-test.true))
     (λ c start is.
-    let o = c.before in
-    let a = (st o).args in
-    let l = o.before.before.before.loop in (
+    let a = (st c.before).args in
+    let l = c.loop-e in (
       l.e,
       l.invariant.0,
-      o.before.before.loop-test.true,
-      wanted_here a.block a.from a.range_length (at o) start (below o) is (ltb-true _ _ (sym o.is-wanted.ensures ∙ c.if1.true)),
+      c.loop-e-test.true,
+      wanted_here a.block a.from a.range_length (at c.before) start (below c.before) is (ltb-true _ _ (sym c.is_wanted.ensures ∙ c.if-is_wanted.true)),
     ))
-    (λ c. omega (arith, c.before.before.before.loop-test.true))
-    (λ c. omega (arith, c.before.before.before.loop-test.true))
+    (λ c. omega (arith, c.loop-e-test.true))
+    (λ c. omega (arith, c.loop-e-test.true))
     (λ c.
-    let o = c.before in
-    let a = (st o).args in
-    let l = o.before.before.before.loop in (
+    let a = (st c.before).args in
+    let l = c.loop-e in (
       omega (arith, l.invariant.0),
-      none_passed a.block a.from a.range_length a.z a.places.now l.e (below o) l.invariant.1
-          (ltb-false _ _ (sym o.is-wanted.ensures ∙ c.if1.false)),
+      none_passed a.block a.from a.range_length a.z a.places.now l.e (below c.before) l.invariant.1
+          (ltb-false _ _ (sym c.is_wanted.ensures ∙ c.if-is_wanted.false)),
     ))
     (λ c start is.
-    let l = c.before.loop in
-    λ e low high. l.invariant.1 start e is low (omega (arith, c.loop-test.false))))
+    let l = c.loop-e in
+    λ e low high. l.invariant.1 start e is low (omega (arith, c.loop-e-test.false))))

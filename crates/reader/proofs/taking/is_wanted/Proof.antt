@@ -7,17 +7,15 @@ use Rattle.reader.proofs.TurnSearch.{onwards, around}
 use Rattle.reader.proofs.taking.is_wanted.Statement.{statement}
 use Rattle.reader.proofs.taking.is_wanted.Tie as tie
 
-pub is-wanted-spec : {M : Type 1} → statement M
-is-wanted-spec =
+pub is_wanted_spec : {M : Type 1} → statement M
+is_wanted_spec =
     tie.close
     (tie.spec
     (λ c.
-    let s = c.before in
-    let a = s.args in
-    rw (onwards a.block a.from a.place s.requires.1 s.requires.2 c.if1.true))
+    let a = c.args in
+    rw (onwards a.block a.from a.place c.requires.1 c.requires.2 c.if-from-place.true))
     (λ c. search rules)
     (λ c. search rules)
     (λ c.
-    let s = c.before in
-    let a = s.args in
-    rw (around a.block a.from a.place s.requires.1 s.requires.2 c.if1.false)))
+    let a = c.args in
+    rw (around a.block a.from a.place c.requires.1 c.requires.2 c.if-from-place.false)))

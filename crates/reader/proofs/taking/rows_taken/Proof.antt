@@ -19,87 +19,79 @@ use Rattle.reader.proofs.TurnSearch.{none_left, places_below, none_more, found_h
 use Rattle.reader.proofs.taking.rows_taken.Statement.{statement}
 use Rattle.reader.proofs.taking.rows_taken.Tie as tie
 
-abbrev invariant-loop : tie.invariant-loop
-invariant-loop s counts d start range_length groups from taken₀ taken =
+abbrev invariant-loop-taken : tie.invariant-loop-taken
+invariant-loop-taken s counts d start range_length groups from taken₀ taken =
     (taken ≤ sent_rows s d) × NoneLater s.block s.z counts d start range_length taken
 
-abbrev decreases-loop : tie.decreases-loop
-decreases-loop s counts d start range_length groups from taken₀ taken = taken
+abbrev decreases-loop-taken : tie.decreases-loop-taken
+decreases-loop-taken s counts d start range_length groups from taken₀ taken = taken
 
-abbrev start_of : tie.After-rows-of-count invariant-loop decreases-loop → tie.Start invariant-loop decreases-loop
+abbrev start_of : tie.After-rows_of_count-taken invariant-loop-taken decreases-loop-taken → tie.Start invariant-loop-taken decreases-loop-taken
 start_of c = c.before.before.before.before
 
 -- the row of the turn before `taken`
-module _ (c : tie.After-row-origins invariant-loop decreases-loop) where
-  abbrev r : tie.After-row-in-turn invariant-loop decreases-loop
+module _ (c : tie.After-row_origins invariant-loop-taken decreases-loop-taken) where
+  abbrev r : tie.After-row_in_turn-j invariant-loop-taken decreases-loop-taken
   r = c.before.before
 
-  abbrev i : tie.In-loop invariant-loop decreases-loop
+  abbrev i : tie.In-loop-taken invariant-loop-taken decreases-loop-taken
   i = r.before
 
-  abbrev st : tie.Start invariant-loop decreases-loop
+  abbrev st : tie.Start invariant-loop-taken decreases-loop-taken
   st = start_of i.before.before
 
-  row_is : r.row-in-turn.result ≡ row_in_turn st.args.s.block st.args.s.z st.args.counts.now st.args.d (i.before.loop.taken - 1)
-  row_is = code_turn _ _ _ _ _ _ _ i.before.before.before.before.group-number.ensures r.row-in-turn.ensures
+  row_is : r.row_in_turn-j.result ≡ row_in_turn st.args.s.block st.args.s.z st.args.counts.now st.args.d (i.loop-taken.taken - 1)
+  row_is = code_turn _ _ _ _ _ _ _ i.group_number-groups.ensures r.row_in_turn-j.ensures
 
   abbrev places : List ℕ
-  places = c.row_origins.new.1.1.1.1.0
+  places = c.row_origins.new.places
 
   below : PlacesBelow st.args.s.z st.args.d st.args.s.block places
   below =
-      places_below st.pre st.args.start st.args.range_length i.before.loop.taken r.row-in-turn.result i.loop-test.taken i.before.loop.inv.0 row_is
+      places_below st.requires st.args.start st.args.range_length i.loop-taken.taken r.row_in_turn-j.result i.loop-taken-test.true i.loop-taken.invariant.0 row_is
       places (replicate side 0) (length-replicate {A = ℕ} side 0) c.row_origins.ensures.1
 
 -- whether it holds a wanted byte
-holds : (c : tie.After-holds-wanted invariant-loop decreases-loop)
+holds : (c : tie.After-holds_wanted invariant-loop-taken decreases-loop-taken)
     → let o = c.before.before.before.before in
     let a = (st o).args in
-    HoldsWanted a.s.block a.start a.range_length a.s.z a.d (places o) c.holds-wanted.result
+    HoldsWanted a.s.block a.start a.range_length a.s.z a.d (places o) c.holds_wanted.result
 holds c =
-    let o = c.before.before.before.before in
-    let a = (st o).args in
-    subst (λ (z : ℕ). HoldsWanted a.s.block a.start a.range_length z a.d (places o) c.holds-wanted.result) c.before.wide.ensures
-    (c.holds-wanted.ensures a.start refl)
+    let a = (st c.before.before.before.before).args in
+    subst (λ (z : ℕ). HoldsWanted a.s.block a.start a.range_length z a.d (places c.before.before.before.before) c.holds_wanted.result) c.wide.ensures
+    (c.holds_wanted.ensures a.start refl)
 
-pub rows-taken-spec : {M : Type 1} → statement M
-rows-taken-spec =
+pub rows_taken_spec : {M : Type 1} → statement M
+rows_taken_spec =
     tie.close
-    (tie.spec invariant-loop decreases-loop
+    (tie.spec invariant-loop-taken decreases-loop-taken
     (λ c κs. search rules)
-    (λ c. (A c.before.before.before.requires).least.positive)
+    (λ c. (A c.requires).least.positive)
     (λ c κs. search rules)
     (λ c.
-    let s = start_of c in
-    (omega (arith, c.rows_of-count.ensures), none_left s.pre s.args.start s.args.range_length c.rows_of-count.result c.rows_of-count.ensures))
+    (omega (arith, c.rows_of_count-taken.ensures), none_left (start_of c).requires (start_of c).args.start (start_of c).args.range_length c.rows_of_count-taken.result c.rows_of_count-taken.ensures))
     (λ c. search rules)
     (λ c κs. search rules)
     (λ c. search rules)
     (λ c κs. search rules)
     (λ c κs. search rules)
     (λ c κs.
-    let o = c.before.before.before in
-    let s = st o in (
-      (A s.pre).limit,
-      mod-lt s.args.start (A s.pre).least.positive,
-      count_high s.pre,
-      λ e low. below o e (rw c.wide.ensures at low),
+    (
+      (A (st c.before.before.before).requires).limit,
+      mod-lt (st c.before.before.before).args.start (A (st c.before.before.before).requires).least.positive,
+      count_high (st c.before.before.before).requires,
+      λ e low. below c.before.before.before e (rw c.wide.ensures at low),
     ))
     (λ c.
-    let o = c.before.before.before.before.before in
-    let s = st o in
-    let l = (i o).before.loop in
-    found_here s.pre s.args.start s.args.range_length l.taken (r o).row-in-turn.result (i o).loop-test.true l.inv.0 (row_is o)
-    (places o) (replicate side 0) (length-replicate {A = ℕ} side 0) o.row_origins.ensures.1 c.before.holds-wanted.result (holds c.before) l.inv.1 c.if1.true)
-    (λ c. omega (arith, (i c.before.before.before.before.before).loop-test.taken))
+    let l = (i c.before.before.before.before.before).loop-taken in
+    found_here (st c.before.before.before.before.before).requires (st c.before.before.before.before.before).args.start (st c.before.before.before.before.before).args.range_length l.taken (r c.before.before.before.before.before).row_in_turn-j.result (i c.before.before.before.before.before).loop-taken-test.true l.invariant.0 (row_is c.before.before.before.before.before)
+    (places c.before.before.before.before.before) (replicate side 0) (length-replicate {A = ℕ} side 0) c.row_origins.ensures.1 c.holds_wanted.result (holds c.before) l.invariant.1 c.if-holds_wanted.true)
+    (λ c. omega (arith, (i c.before.before.before.before.before).loop-taken-test.true))
     (λ c.
-    let o = c.before.before.before.before.before in
-    let s = st o in
-    let l = (i o).before.loop in (
-      omega (arith, l.inv.0),
-      none_more s.pre s.args.start s.args.range_length l.taken (r o).row-in-turn.result (i o).loop-test.true l.inv.0 (row_is o)
-          (places o) (replicate side 0) (length-replicate {A = ℕ} side 0) o.row_origins.ensures.1 c.before.holds-wanted.result (holds c.before) l.inv.1 c.if1.false,
+    let l = (i c.before.before.before.before.before).loop-taken in (
+      omega (arith, l.invariant.0),
+      none_more (st c.before.before.before.before.before).requires (st c.before.before.before.before.before).args.start (st c.before.before.before.before.before).args.range_length l.taken (r c.before.before.before.before.before).row_in_turn-j.result (i c.before.before.before.before.before).loop-taken-test.true l.invariant.0 (row_is c.before.before.before.before.before)
+          (places c.before.before.before.before.before) (replicate side 0) (length-replicate {A = ℕ} side 0) c.row_origins.ensures.1 c.holds_wanted.result (holds c.before) l.invariant.1 c.if-holds_wanted.false,
     ))
     (λ c.
-    let s = start_of c.before.before in
-    found_none s.pre s.args.start s.args.range_length c.before.loop.taken (omega (arith, c.loop-test.false)) c.before.loop.invariant.1))
+    found_none (start_of c.before.before).requires (start_of c.before.before).args.start (start_of c.before.before).args.range_length c.loop-taken.taken (omega (arith, c.loop-taken-test.false)) c.loop-taken.invariant.1))

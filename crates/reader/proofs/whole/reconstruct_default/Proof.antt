@@ -5,5 +5,5 @@ use borrow.Author.Rules.{rules}
 use Rattle.reader.proofs.whole.reconstruct_default.Statement.{statement}
 use Rattle.reader.proofs.whole.reconstruct_default.Tie as tie
 
-pub reconstruct-default-spec : {M : Type 1} → statement M
-reconstruct-default-spec = tie.close (tie.spec (λ c. search rules) (λ c κs. search rules) (λ c. search rules) (λ c. c.before.before.reconstruct.ensures))
+pub reconstruct_default_spec : {M : Type 1} → statement M
+reconstruct_default_spec = tie.close (tie.spec (λ c. search rules) (λ c κs. search rules) (λ c. search rules) (λ c. c.reconstruct.ensures))
