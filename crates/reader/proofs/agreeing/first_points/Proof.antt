@@ -39,4 +39,4 @@ first_points_spec =
     (λ c.
     let l = c.loop-i in
     let whole : l.i ≡ c.args.d = omega (arith, l.invariant.0, c.loop-i-test.false) in
-    λ q. rw whole at (l.invariant.1 q).ic ∙ sym (points-left q c.args.parties.now c.args.skip c.args.d c.requires.1)))
+    λ q. rw whole at (l.invariant.1 q).is ∙ sym (points-left q c.args.parties.now c.args.skip c.args.d c.requires.1)))

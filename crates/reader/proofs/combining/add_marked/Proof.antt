@@ -34,8 +34,8 @@ add_marked_spec =
     let l = c.loop-i in
     let a = c.args in (
       search rules,
-      ⊎_elim (λ w. marked_more a.sum a.columns.now a.weights.now a.bit l.i l.invariant.1 w.0.true w.1.ensures w.2.ensures w.3)
-          (λ w. marked-same a.sum a.columns.now a.weights.now a.bit l.i l.invariant.1 w.0.false w.1) c.if-weights-i-eq1.branch-raw,
+      ⊎_elim (λ w. marked_more a.sum a.columns.now a.weights.now a.bit l.i l.invariant.1 w.if-weights-i-eq1.true w.column.ensures w.sum_each-more.ensures w.total-is)
+          (λ w. marked-same a.sum a.columns.now a.weights.now a.bit l.i l.invariant.1 w.if-weights-i-eq1.false w.total-is) c.if-weights-i-eq1.branch-raw,
     ))
     (λ c.
     let l = c.loop-i in

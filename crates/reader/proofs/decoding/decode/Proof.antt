@@ -101,7 +101,7 @@ decode_spec =
     let fits = row_told (st (at_row c.before.before.before.before)).args.prefixes.now (row_at (row (at_row c.before.before.before.before))) (origins c.before.before.before.before) (sizes_are (at_row c.before.before.before.before)) (top_is c.before.before.before.before) in
     ((fits.0, fits.1, (i (at_row c.before.before.before.before)).loop-turn.invariant.2 ∙ (st (at_row c.before.before.before.before)).requires.2 ∙ ap (λ (x : Sizes). x.blocks * x.block) (sym (sizes_are (at_row c.before.before.before.before)))), (counted (at_row c.before.before.before.before)).1))
     (λ c.
-    omega (arith, (i (at_row c.before.before.before.before.before.before.before)).loop-turn-test.true, (st (at_row c.before.before.before.before.before.before.before)).fits.many))
+    omega (arith, (i (at_row c.before.before.before.before.before.before.before)).loop-turn-test.true, (st (at_row c.before.before.before.before.before.before.before)).ranges.many.fits))
     (λ c.
     omega (arith, (i (at_row c.before.before.before.before.before.before.before)).loop-turn-test.true))
     (λ c.

@@ -36,7 +36,7 @@ module _ (c : tie.After-ends_past-past) where
   told = c.before.before.before
 
   abbrev st : tie.Start
-  st = told.before.before.before.before.before.before.before.before
+  st = told.before.before.before.before.before.before
 
   abbrev p : Parameters
   p = parameters st.args.n st.args.r st.args.z st.args.counts.now
@@ -56,7 +56,7 @@ module _ (c : tie.After-ends_past-past) where
   rising-test : readers_refused p.n st.args.parties.now ≡ c.readers_refused-unordered.result
   rising-test = sym c.readers_refused-unordered.ensures
 
-  past_test : ltb st.args.message-length (st.args.start + st.args.range_length) ≡ c.ends_past-past.result
+  past_test : ltb st.args.message_length (st.args.start + st.args.range_length) ≡ c.ends_past-past.result
   past_test = sym c.ends_past-past.ensures
 
 -- past refusal 15
@@ -64,7 +64,7 @@ module _ (c : tie.Else-past) where
   abbrev tests : tie.After-ends_past-past
   tests = c.before.before.before.before
 
-  short : (st tests).args.message-length ≤ max_message
+  short : (st tests).args.message_length ≤ max_message
   short = c.if-message_length-gt-MAX_MESSAGE.false
 
   counted : occurs (d tests) (p tests).counts ≡ true
@@ -73,17 +73,17 @@ module _ (c : tie.Else-past) where
   rising : readers_refused (p tests).n (st tests).args.parties.now ≡ false
   rising = rising-test tests ∙ c.if-unordered.false
 
-  inside : (st tests).args.start + (st tests).args.range_length ≤ (st tests).args.message-length
+  inside : (st tests).args.start + (st tests).args.range_length ≤ (st tests).args.message_length
   inside = ltb-false _ _ (past_test tests ∙ c.if-past.false)
 
   -- and so past the lines before 9
   to_slices : {vs qs : List ℕ} {o : Outcome} → Way vs qs o
       → Way vs
       (refusal (p tests).n (p tests).r (p tests).z (p tests).counts
-      ∷ number_if 5 (ltb max_message (st tests).args.message-length)
+      ∷ number_if 5 (ltb max_message (st tests).args.message_length)
       ∷ number_if 6 (not (occurs (d tests) (p tests).counts))
       ∷ number_if 7 (readers_refused (p tests).n (st tests).args.parties.now)
-      ∷ number_if 15 (ltb (st tests).args.message-length ((st tests).args.start + (st tests).args.range_length))
+      ∷ number_if 15 (ltb (st tests).args.message_length ((st tests).args.start + (st tests).args.range_length))
       ∷ qs) o
   to_slices w =
       pass (is tests).passed
@@ -92,7 +92,7 @@ module _ (c : tie.Else-past) where
 -- what is tested for refusal 9
 sent_are : (c : tie.After-rows_of_count)
     → let o = tests c.before.before in
-    d o * c.rows_of_count.result * c.block_count-blocks.result ≡ prefix_bytes (p o) (d o) (blocks_of (p o) (st o).args.message-length)
+    d o * c.rows_of_count.result * c.block_count-blocks.result ≡ prefix_bytes (p o) (d o) (blocks_of (p o) (st o).args.message_length)
 sent_are c =
     bytes_are _ _ (is (tests c.before.before)) _ _ c.rows_of_count.ensures _ ∙ ap (prefix_bytes _ _) (blocks_are _ _ (is (tests c.before.before)) _ _ c.block_count-blocks.ensures)
 
