@@ -1,2 +1,0 @@
-mod PoolWithScheme
-mod PoolInDefault

@@ -18,7 +18,7 @@ mod taking;
 // The record of a pool: how many bytes it was loaded with, and the position of the next unused one (document 02's place), 0
 // when it is loaded.
 #[repr(C)]
-#[derive(Drop)]
+#[derive(Clone, Copy)]
 pub struct KeyPool {
     pub length: usize,
     pub position: usize,
@@ -26,7 +26,7 @@ pub struct KeyPool {
 
 // The two forms of a message: the earlier one, whose reader has to know its length, and padded, so that it shows its own
 // end (document 02, a).
-#[derive(Drop)]
+#[derive(Clone, Copy)]
 pub enum Form {
     Earlier,
     Padded,

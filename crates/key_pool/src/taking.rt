@@ -6,7 +6,7 @@ use crate::KeyPool;
 use scheme::Answer;
 
 // What a split came to: its answer, and how many key bytes it took.
-#[derive(Drop)]
+#[derive(Clone, Copy)]
 pub(crate) struct Drawn {
     pub answer: Answer,
     pub bytes: usize,

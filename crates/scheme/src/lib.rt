@@ -29,7 +29,7 @@ pub struct Scheme {
 }
 
 // The answer of the check: the scheme, or the number of the first refusal that applies.
-#[derive(Drop)]
+#[derive(Clone, Copy)]
 pub enum SchemeAnswer {
     Accepted(Scheme),
     Refused(u8),
@@ -37,7 +37,7 @@ pub enum SchemeAnswer {
 
 // The answer of the check that also tells how many multiples its search for the block length tried
 // (document 02, d): the check's answer, and that number beside it, beside a refusal too.
-#[derive(Drop)]
+#[derive(Clone, Copy)]
 pub enum TriedAnswer {
     Accepted(Scheme, usize),
     Refused(u8, usize),
@@ -45,7 +45,7 @@ pub enum TriedAnswer {
 
 // The answer of the calls that answer one number: that number, or the number of the first refusal that
 // applies.
-#[derive(Drop)]
+#[derive(Clone, Copy)]
 pub enum Answer {
     Value(usize),
     Refused(u8),

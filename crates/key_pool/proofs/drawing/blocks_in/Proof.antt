@@ -8,9 +8,9 @@ use Rattle.scheme.specs.Padding.{padded_count}
 use Rattle.key_pool.proofs.drawing.blocks_in.Statement.{statement}
 use Rattle.key_pool.proofs.drawing.blocks_in.Tie as tie
 
-pub blocks-in-spec : {M : Type 1} → statement M
+pub blocks_in_spec : {M : Type 1} → statement M
 unfolding padded_count
-blocks-in-spec =
+blocks_in_spec =
     tie.close
     (tie.spec
     (λ c. search rules)
@@ -18,7 +18,6 @@ blocks-in-spec =
     (λ c. search rules)
     (λ c. search rules)
     (λ c.
-    let s = c.before.before in
-    omega (arith, div-le_self s.args.length s.args.block, s.requires.1))
-    (λ c. rw c.before.enum_told.given.1 c.block-count.ensures)
-    (λ c. rw c.enum-told2.given.1 refl))
+    omega (arith, div-le_self c.args.length c.args.block, c.requires.1))
+    (λ c. rw c.in-Earlier.is c.block_count.ensures)
+    (λ c. rw c.in-Padded.is refl))

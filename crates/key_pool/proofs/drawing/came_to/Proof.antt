@@ -5,5 +5,5 @@ use borrow.Author.Rules.{rules}
 use Rattle.key_pool.proofs.drawing.came_to.Statement.{statement}
 use Rattle.key_pool.proofs.drawing.came_to.Tie as tie
 
-pub came-to-spec : {M : Type 1} → statement M
-came-to-spec = tie.close (tie.spec (λ c. search rules) (λ c. search rules) (λ c. (refl, rw c.enum_told.given.1 refl)) (λ c. (refl, rw c.enum-told2.given.1 refl)))
+pub came_to_spec : {M : Type 1} → statement M
+came_to_spec = tie.close (tie.spec (λ c. search rules) (λ c. search rules) (λ c. (refl, rw c.in-Value.is refl)) (λ c. (refl, rw c.in-Refused.is refl)))

@@ -5,5 +5,5 @@ use borrow.Author.Rules.{rules}
 use Rattle.key_pool.proofs.drawing.draw.Statement.{statement}
 use Rattle.key_pool.proofs.drawing.draw.Tie as tie
 
-pub draw-spec : {M : Type 1} → statement M
-draw-spec = tie.close (tie.spec (λ c κs. search rules) (λ c. search rules) (λ c. c.before.before.draw-in.ensures))
+pub draw_spec : {M : Type 1} → statement M
+draw_spec = tie.close (tie.spec (λ c κs. search rules) (λ c. search rules) (λ c. c.draw_in.ensures))

@@ -5,5 +5,5 @@ use borrow.Author.Rules.{rules}
 use Rattle.key_pool.proofs.drawing.draw_default.Statement.{statement}
 use Rattle.key_pool.proofs.drawing.draw_default.Tie as tie
 
-pub draw-default-spec : {M : Type 1} → statement M
-draw-default-spec = tie.close (tie.spec (λ c. search rules) (λ c κs. search rules) (λ c. search rules) (λ c. c.before.before.draw.ensures))
+pub draw_default_spec : {M : Type 1} → statement M
+draw_default_spec = tie.close (tie.spec (λ c. search rules) (λ c κs. search rules) (λ c. search rules) (λ c. c.draw.ensures))

@@ -5,5 +5,5 @@ use borrow.Author.Rules.{rules}
 use Rattle.key_pool.proofs.drawing.draw_padded.Statement.{statement}
 use Rattle.key_pool.proofs.drawing.draw_padded.Tie as tie
 
-pub draw-padded-spec : {M : Type 1} → statement M
-draw-padded-spec = tie.close (tie.spec (λ c κs. search rules) (λ c. search rules) (λ c. c.before.before.draw-in.ensures))
+pub draw_padded_spec : {M : Type 1} → statement M
+draw_padded_spec = tie.close (tie.spec (λ c κs. search rules) (λ c. search rules) (λ c. c.draw_in.ensures))

@@ -5,5 +5,5 @@ use borrow.Author.Rules.{rules}
 use Rattle.key_pool.proofs.drawing.draw_padded_default.Statement.{statement}
 use Rattle.key_pool.proofs.drawing.draw_padded_default.Tie as tie
 
-pub draw-padded-default-spec : {M : Type 1} → statement M
-draw-padded-default-spec = tie.close (tie.spec (λ c. search rules) (λ c κs. search rules) (λ c. search rules) (λ c. c.before.before.draw-padded.ensures))
+pub draw_padded_default_spec : {M : Type 1} → statement M
+draw_padded_default_spec = tie.close (tie.spec (λ c. search rules) (λ c κs. search rules) (λ c. search rules) (λ c. c.draw_padded.ensures))

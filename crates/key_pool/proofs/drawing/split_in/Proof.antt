@@ -4,8 +4,8 @@ use borrow.Author.Rules.{rules}
 use Rattle.key_pool.proofs.drawing.split_in.Statement.{statement}
 use Rattle.key_pool.proofs.drawing.split_in.Tie as tie
 
-pub split-in-spec : {M : Type 1} → statement M
-split-in-spec =
+pub split_in_spec : {M : Type 1} → statement M
+split_in_spec =
     tie.close
     (tie.spec
     (λ c. search rules)
@@ -14,9 +14,7 @@ split-in-spec =
     (λ c κs. search rules)
     (λ c. search rules)
     (λ c.
-    let s = c.before.before in
-    rw s.before.before.enum_told.given.1 s.split.ensures)
+    rw c.in-Earlier.is c.split.ensures)
     (λ c. search rules)
     (λ c.
-    let s = c.before.before in
-    rw s.before.before.enum-told2.given.1 s.split-padded.ensures))
+    rw c.in-Padded.is c.split_padded.ensures))

@@ -6,12 +6,12 @@ use Rattle.key_pool.specs.Pool.{taken}
 use Rattle.key_pool.proofs.taking.taken.Statement.{statement}
 use Rattle.key_pool.proofs.taking.taken.Tie as tie
 
-pub taken-spec : {M : Type 1} → statement M
+pub taken_spec : {M : Type 1} → statement M
 unfolding taken
-taken-spec =
+taken_spec =
     tie.close
     (tie.spec
     (λ c. search rules)
-    (λ c. simp (le-leb _ _ c.before.if1.true, le-leb _ _ c.if2.true))
-    (λ c. simp (le-leb _ _ c.before.if1.true, lt-leb _ _ c.if2.false))
-    (λ c. simp (lt-leb _ _ c.if1.false)))
+    (λ c. simp (le-leb _ _ c.if-position-length.true, le-leb _ _ c.if-bytes-length.true))
+    (λ c. simp (le-leb _ _ c.if-position-length.true, lt-leb _ _ c.if-bytes-length.false))
+    (λ c. simp (lt-leb _ _ c.if-position-length.false)))
