@@ -4,5 +4,5 @@ use borrow.Author.Rules.{rules}
 use Rattle.exports.proofs.gf256_add.Statement.{statement}
 use Rattle.exports.proofs.gf256_add.Tie as tie
 
-pub gf256-add-spec : {M : Type 1} → statement M
-gf256-add-spec = tie.close (tie.spec (λ c κs. search rules) (λ c. c.add.ensures))
+pub gf256_add_spec : {M : Type 1} → statement M
+gf256_add_spec = tie.close (tie.spec (λ c κs. search rules) (λ c. c.add.ensures))

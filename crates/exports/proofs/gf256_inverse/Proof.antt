@@ -6,13 +6,13 @@ use Rattle.exports.specs.Fields.{inverted_fields}
 use Rattle.exports.proofs.gf256_inverse.Statement.{statement}
 use Rattle.exports.proofs.gf256_inverse.Tie as tie
 
-pub gf256-inverse-spec : {M : Type 1} → statement M
-gf256-inverse-spec =
+pub gf256_inverse_spec : {M : Type 1} → statement M
+gf256_inverse_spec =
     tie.close
     (tie.spec
     (λ c κs. search rules)
     (λ c. search rules)
     (λ c. search rules)
     (λ c. search rules)
-    (λ c. sym (ap inverted_fields (sym c.before.before.before.inverse.ensures ∙ c.before.x.given.1)))
-    (λ c. sym (ap inverted_fields (sym c.before.before.inverse.ensures ∙ c.enum_told.given.1))))
+    (λ c. sym (ap inverted_fields (sym c.inverse.ensures ∙ c.in-Inverse.is)))
+    (λ c. sym (ap inverted_fields (sym c.inverse.ensures ∙ c.in-NoInverse.is))))

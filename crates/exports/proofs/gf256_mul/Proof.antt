@@ -4,5 +4,5 @@ use borrow.Author.Rules.{rules}
 use Rattle.exports.proofs.gf256_mul.Statement.{statement}
 use Rattle.exports.proofs.gf256_mul.Tie as tie
 
-pub gf256-mul-spec : {M : Type 1} → statement M
-gf256-mul-spec = tie.close (tie.spec (λ c κs. search rules) (λ c. c.mul.ensures))
+pub gf256_mul_spec : {M : Type 1} → statement M
+gf256_mul_spec = tie.close (tie.spec (λ c κs. search rules) (λ c. c.mul.ensures))

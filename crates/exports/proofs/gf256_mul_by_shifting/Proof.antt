@@ -4,5 +4,5 @@ use borrow.Author.Rules.{rules}
 use Rattle.exports.proofs.gf256_mul_by_shifting.Statement.{statement}
 use Rattle.exports.proofs.gf256_mul_by_shifting.Tie as tie
 
-pub gf256-mul-by-shifting-spec : {M : Type 1} → statement M
-gf256-mul-by-shifting-spec = tie.close (tie.spec (λ c κs. search rules) (λ c. c.mul-by-shifting.ensures))
+pub gf256_mul_by_shifting_spec : {M : Type 1} → statement M
+gf256_mul_by_shifting_spec = tie.close (tie.spec (λ c κs. search rules) (λ c. c.mul_by_shifting.ensures))

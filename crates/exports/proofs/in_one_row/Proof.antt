@@ -11,17 +11,17 @@ use Rattle.exports.specs.Fields.{flattened}
 use Rattle.exports.proofs.in_one_row.Statement.{statement}
 use Rattle.exports.proofs.in_one_row.Tie as tie
 
-abbrev invariant-loop : tie.invariant-loop
-invariant-loop table weights₀ k₀ weights k = Fill (λ k. get_or (get_or table (k / side) []) (k % side) 0) (side * side) k weights
+abbrev invariant-loop-k : tie.invariant-loop-k
+invariant-loop-k table weights₀ k₀ weights k = Fill (λ k. get_or (get_or table (k / side) []) (k % side) 0) (side * side) k weights
 
-abbrev decreases-loop : tie.decreases-loop
-decreases-loop table weights₀ k₀ weights k = side * side - k
+abbrev decreases-loop-k : tie.decreases-loop-k
+decreases-loop-k table weights₀ k₀ weights k = side * side - k
 
-pub in-one-row-spec : {M : Type 1} → statement M
+pub in_one_row_spec : {M : Type 1} → statement M
 unfolding flattened
-in-one-row-spec =
+in_one_row_spec =
     tie.close
-    (tie.spec invariant-loop decreases-loop
+    (tie.spec invariant-loop-k decreases-loop-k
     (λ c. fill_none _ (side * side) _ refl)
     (λ c. omega arith)
     (λ c. omega arith)
@@ -29,5 +29,5 @@ in-one-row-spec =
     (λ c. omega arith)
     (λ c. omega arith)
     (λ c. omega arith)
-    (λ c. fill_more c.before.before.loop.invariant c.before.loop-test.true refl)
-    (λ c. fill-all c.before.loop.invariant c.loop-test.false))
+    (λ c. fill_more c.loop-k.invariant c.loop-k-test.true refl)
+    (λ c. fill-all c.loop-k.invariant c.loop-k-test.false))

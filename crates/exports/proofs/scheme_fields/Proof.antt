@@ -7,12 +7,12 @@ use Rattle.exports.specs.Fields.{checked_fields}
 use Rattle.exports.proofs.scheme_fields.Statement.{statement}
 use Rattle.exports.proofs.scheme_fields.Tie as tie
 
-pub scheme-fields-spec : {M : Type 1} → statement M
-scheme-fields-spec =
+pub scheme_fields_spec : {M : Type 1} → statement M
+scheme_fields_spec =
     tie.close
     (tie.spec
     (λ c. search rules)
     (λ c. search rules)
     (λ c. search rules)
-    (λ c. sym (ap (λ answer. checked_fields (scheme_outcome answer)) c.before.answer.given.1))
-    (λ c. sym (ap (λ answer. checked_fields (scheme_outcome answer)) c.before.answer2.given.1)))
+    (λ c. sym (ap (λ answer. checked_fields (scheme_outcome answer)) c.in-Accepted.is))
+    (λ c. sym (ap (λ answer. checked_fields (scheme_outcome answer)) c.in-Refused.is)))

@@ -9,11 +9,11 @@ use Rattle.exports.specs.Fields.{flattened}
 use Rattle.exports.proofs.sharing_basis.Statement.{statement}
 use Rattle.exports.proofs.sharing_basis.Tie as tie
 
-pub sharing-basis-spec : {M : Type 1} → statement M
-sharing-basis-spec =
+pub sharing_basis_spec : {M : Type 1} → statement M
+sharing_basis_spec =
     tie.close
     (tie.spec (λ c κs. search rules) (λ c κs. search rules) (λ c κs. search rules) (λ c κs. search rules)
     (λ c. (
-      ap (λ fs. get_or fs 0 0) c.before.before.fields.ensures ∙ ap (λ (o : Outcome). o.number) c.before.before.before.basis-size.ensures ∙ basis-number _ _,
-      c.in-one-row.ensures ∙ ap flattened c.before.basis.ensures,
+      ap (λ fs. get_or fs 0 0) c.fields-size.ensures ∙ ap (λ (o : Outcome). o.number) c.basis_size.ensures ∙ basis-number _ _,
+      c.in_one_row-weights.ensures ∙ ap flattened c.basis.ensures,
     )))

@@ -6,7 +6,7 @@ use Rattle.exports.specs.Fields.{checked_fields}
 use Rattle.exports.proofs.sharing_check.Statement.{statement}
 use Rattle.exports.proofs.sharing_check.Tie as tie
 
-pub sharing-check-spec : {M : Type 1} → statement M
-sharing-check-spec =
+pub sharing_check_spec : {M : Type 1} → statement M
+sharing_check_spec =
     tie.close
-    (tie.spec (λ c κs. search rules) (λ c κs. search rules) (λ c. c.scheme-fields.ensures ∙ ap checked_fields c.before.check.ensures))
+    (tie.spec (λ c κs. search rules) (λ c κs. search rules) (λ c. c.scheme_fields.ensures ∙ ap checked_fields c.check.ensures))

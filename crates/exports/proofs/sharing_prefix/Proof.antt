@@ -6,7 +6,7 @@ use Rattle.exports.specs.Fields.{value_fields}
 use Rattle.exports.proofs.sharing_prefix.Statement.{statement}
 use Rattle.exports.proofs.sharing_prefix.Tie as tie
 
-pub sharing-prefix-spec : {M : Type 1} → statement M
-sharing-prefix-spec =
+pub sharing_prefix_spec : {M : Type 1} → statement M
+sharing_prefix_spec =
     tie.close
-    (tie.spec (λ c κs. search rules) (λ c κs. search rules) (λ c. c.fields.ensures ∙ ap value_fields c.before.prefix-length.ensures))
+    (tie.spec (λ c κs. search rules) (λ c κs. search rules) (λ c. c.fields.ensures ∙ ap value_fields c.prefix_length.ensures))

@@ -6,7 +6,7 @@ use Rattle.exports.specs.Fields.{value_fields}
 use Rattle.exports.proofs.sharing_prefix_default.Statement.{statement}
 use Rattle.exports.proofs.sharing_prefix_default.Tie as tie
 
-pub sharing-prefix-default-spec : {M : Type 1} → statement M
-sharing-prefix-default-spec =
+pub sharing_prefix_default_spec : {M : Type 1} → statement M
+sharing_prefix_default_spec =
     tie.close
-    (tie.spec (λ c κs. search rules) (λ c κs. search rules) (λ c. c.fields.ensures ∙ ap value_fields c.before.prefix-length-default.ensures))
+    (tie.spec (λ c κs. search rules) (λ c κs. search rules) (λ c. c.fields.ensures ∙ ap value_fields c.prefix_length_default.ensures))

@@ -6,7 +6,7 @@ use Rattle.exports.specs.Fields.{value_fields}
 use Rattle.exports.proofs.sharing_reconstruct_default.Statement.{statement}
 use Rattle.exports.proofs.sharing_reconstruct_default.Tie as tie
 
-pub sharing-reconstruct-default-spec : {M : Type 1} → statement M
-sharing-reconstruct-default-spec =
+pub sharing_reconstruct_default_spec : {M : Type 1} → statement M
+sharing_reconstruct_default_spec =
     tie.close
-    (tie.spec (λ c κs. search rules) (λ c κs. search rules) (λ c. search rules) (λ c. (c.fields.ensures ∙ ap value_fields c.before.before.before.reconstruct-default.ensures.0, c.before.before.before.reconstruct-default.ensures.1)))
+    (tie.spec (λ c κs. search rules) (λ c κs. search rules) (λ c. search rules) (λ c. (c.fields.ensures ∙ ap value_fields c.reconstruct_default.ensures.0, c.reconstruct_default.ensures.1)))

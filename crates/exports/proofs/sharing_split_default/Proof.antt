@@ -6,7 +6,7 @@ use Rattle.exports.specs.Fields.{value_fields}
 use Rattle.exports.proofs.sharing_split_default.Statement.{statement}
 use Rattle.exports.proofs.sharing_split_default.Tie as tie
 
-pub sharing-split-default-spec : {M : Type 1} → statement M
-sharing-split-default-spec =
+pub sharing_split_default_spec : {M : Type 1} → statement M
+sharing_split_default_spec =
     tie.close
-    (tie.spec (λ c κs. search rules) (λ c κs. search rules) (λ c. search rules) (λ c. (c.fields.ensures ∙ ap value_fields c.before.before.before.split-default.ensures.0, c.before.before.before.split-default.ensures.1)))
+    (tie.spec (λ c κs. search rules) (λ c κs. search rules) (λ c. search rules) (λ c. (c.fields.ensures ∙ ap value_fields c.split_default.ensures.0, c.split_default.ensures.1)))

@@ -8,15 +8,15 @@ use Rattle.archive.proofs.numbers.number_at.Statement.{statement}
 use Rattle.archive.proofs.numbers.number_at.Tie as tie
 
 -- both bytes are below 256
-bytes : (c : tie.After-wide2) → (c.before.before.wide.result < 256) × (c.wide2.result < 256)
+bytes : (c : tie.After-wide-high) → (c.wide-low.result < 256) × (c.wide-high.result < 256)
 bytes c =
-    let x = c.before.before.before.before.before.args in
-    let known = c.before.shared-slice-known3.given in
-    (omega (arith, c.before.before.wide.ensures, known x.at), omega (arith, c.wide2.ensures, known (x.at + 1)))
+    let x = c.args in
+    let known = c.shared_slice_known-3-1.given in
+    (omega (arith, c.wide-low.ensures, known x.at), omega (arith, c.wide-high.ensures, known (x.at + 1)))
 
-pub number-at-spec : {M : Type 1} → statement M
+pub number_at_spec : {M : Type 1} → statement M
 unfolding number_at
-number-at-spec =
+number_at_spec =
     tie.close
     (tie.spec
     (λ c. search rules)
@@ -26,4 +26,4 @@ number-at-spec =
     (λ c κs. search rules)
     (λ c. omega (arith, bytes c))
     (λ c. omega (arith, bytes c))
-    (λ c. (rw (c.before.before.wide.ensures, c.wide2.ensures), omega (arith, bytes c))))
+    (λ c. (rw (c.wide-low.ensures, c.wide-high.ensures), omega (arith, bytes c))))

@@ -9,9 +9,9 @@ use Rattle.archive.proofs.Put.{two_stored}
 use Rattle.archive.proofs.numbers.put_number.Statement.{statement}
 use Rattle.archive.proofs.numbers.put_number.Tie as tie
 
-pub put-number-spec : {M : Type 1} → statement M
+pub put_number_spec : {M : Type 1} → statement M
 unfolding two_bytes
-put-number-spec =
+put_number_spec =
     tie.close
     (tie.spec
     (λ c. search rules)

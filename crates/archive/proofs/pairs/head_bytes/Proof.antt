@@ -5,5 +5,5 @@ use borrow.Author.Rules.{rules}
 use Rattle.archive.proofs.pairs.head_bytes.Statement.{statement}
 use Rattle.archive.proofs.pairs.head_bytes.Tie as tie
 
-pub head-bytes-spec : {M : Type 1} → statement M
-head-bytes-spec = tie.close (tie.spec (λ c. search rules) (λ c. search rules) (λ c. refl))
+pub head_bytes_spec : {M : Type 1} → statement M
+head_bytes_spec = tie.close (tie.spec (λ c. search rules) (λ c. search rules) (λ c. refl))

@@ -5,12 +5,12 @@ use Rattle.archive.proofs.Lookup.{length-refused, length-told}
 use Rattle.archive.proofs.reading.entry_length.Statement.{statement}
 use Rattle.archive.proofs.reading.entry_length.Tie as tie
 
-pub entry-length-spec : {M : Type 1} → statement M
-entry-length-spec =
+pub entry_length_spec : {M : Type 1} → statement M
+entry_length_spec =
     tie.close
     (tie.spec
     (λ c κs. search rules)
     (λ c. search rules)
     (λ c. search rules)
-    (λ c. length-told _ _ _ c.before.before.before.entry_IsPlace.ensures c.before.place.given.1)
-    (λ c. length-refused _ _ _ c.before.before.before.entry_IsPlace.ensures c.before.place2.given.1))
+    (λ c. length-told _ _ _ c.entry_IsPlace.ensures c.in-At.is)
+    (λ c. length-refused _ _ _ c.entry_IsPlace.ensures c.in-Refused.is))

@@ -6,20 +6,18 @@ use Rattle.archive.proofs.Lookup.{file-refused, no_entry, pair_within, entry_her
 use Rattle.archive.proofs.reading.entry_place.Statement.{statement}
 use Rattle.archive.proofs.reading.entry_place.Tie as tie
 
-pub entry-place-spec : {M : Type 1} → statement M
-entry-place-spec =
+pub entry_place_spec : {M : Type 1} → statement M
+entry_place_spec =
     tie.close
     (tie.spec
     (λ c κs. search rules)
     (λ c. search rules)
     (λ c. search rules)
-    (λ c. no_entry _ _ _ c.before.before.before.before.count.ensures c.before.before.answer2.given.1 c.if1.true)
+    (λ c. no_entry _ _ _ c.count-answer.ensures c.in-Value.is c.if-entries-number.true)
     (λ c κs.
-    let call = c.before.before.before.before in
-    let within = pair_within _ call.before.before.args.number _ call.count.ensures c.before.before.answer2.given.1 c.if1.false in
-    (omega (arith, within.0, c.if1.false), omega (arith, within.1, c.if1.false)))
-    (λ c. file-refused _ _ _ c.before.before.before.count.ensures c.before.answer.given.1)
+    let within = pair_within _ c.args.number _ c.count-answer.ensures c.in-Value.is c.if-entries-number.false in
+    (omega (arith, within.0, c.if-entries-number.false), omega (arith, within.1, c.if-entries-number.false)))
+    (λ c. file-refused _ _ _ c.count-answer.ensures c.in-Refused.is)
     (λ c.
-    let e = c.before in
-    let says = c.pair-at.ensures in
-    entry_here _ _ _ e.before.before.before.before.count.ensures e.before.before.answer2.given.1 e.if1.false _ _ says.offset_is says.length_is))
+    let says = c.pair_at-pair.ensures in
+    entry_here _ _ _ c.count-answer.ensures c.in-Value.is c.if-entries-number.false _ _ says.offset_is says.length_is))

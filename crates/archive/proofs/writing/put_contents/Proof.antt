@@ -10,34 +10,34 @@ use Rattle.archive.proofs.Put.{copied_next}
 use Rattle.archive.proofs.writing.put_contents.Statement.{statement}
 use Rattle.archive.proofs.writing.put_contents.Tie as tie
 
-abbrev invariant-loop : tie.invariant-loop
-invariant-loop contents at out₀ i₀ out i = (i ≤ length contents) × (length out ≡ length out₀) × (out ≡ paste out₀ at contents i)
+abbrev invariant-loop-i : tie.invariant-loop-i
+invariant-loop-i contents at out₀ i₀ out i = (i ≤ length contents) × (length out ≡ length out₀) × (out ≡ paste out₀ at contents i)
 
-abbrev decreases-loop : tie.decreases-loop
-decreases-loop contents at out₀ i₀ out i = length contents - i
+abbrev decreases-loop-i : tie.decreases-loop-i
+decreases-loop-i contents at out₀ i₀ out i = length contents - i
 
-pub put-contents-spec : {M : Type 1} → statement M
-put-contents-spec =
+pub put_contents_spec : {M : Type 1} → statement M
+put_contents_spec =
     tie.close
     (tie.spec
-    invariant-loop
-    decreases-loop
+    invariant-loop-i
+    decreases-loop-i
     (λ c. (omega arith, search rules, paste-zero c.args.out.now c.args.at c.args.contents.now))
     (λ c. search rules)
     (λ c. search rules)
-    (λ c. omega (arith, c.before.before.before.requires))
+    (λ c. omega (arith, c.requires))
     (λ c. search rules)
     (λ c. search rules)
     (λ c.
-    let l = c.before.before.loop in
-    let x = c.before.before.before.args in (
+    let l = c.loop-i in
+    let x = c.args in (
       omega arith,
       simp length-set l.invariant.1,
-      copied_next x.out.now x.at x.contents.now l.i l.out l.invariant.2 (omega (arith, c.before.before.before.requires)) (search rules),
+      copied_next x.out.now x.at x.contents.now l.i l.out l.invariant.2 (omega (arith, c.requires)) (search rules),
     ))
     (λ c. search rules)
     (λ c.
-    let l = c.before.loop in
-    let x = c.before.before.args in
+    let l = c.loop-i in
+    let x = c.args in
     let all : l.i ≡ length x.contents.now = omega arith in
     l.invariant.2 ∙ ap (λ (n : ℕ). paste x.out.now x.at x.contents.now n) all))

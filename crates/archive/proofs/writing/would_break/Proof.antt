@@ -13,61 +13,54 @@ use Rattle.archive.proofs.Lengths.{total-at, total_end, fit_end, fit_next, unfit
 use Rattle.archive.proofs.writing.would_break.Statement.{statement}
 use Rattle.archive.proofs.writing.would_break.Tie as tie
 
-abbrev invariant-loop : tie.invariant-loop
-invariant-loop contents lengths head offset₀ i₀ offset i =
+abbrev invariant-loop-i : tie.invariant-loop-i
+invariant-loop-i contents lengths head offset₀ i₀ offset i =
     (i ≤ length lengths)
     × (head ≤ offset)
     × (offset + total (drop i lengths) ≡ head + total lengths)
     × (lengths_fit offset (drop i lengths) ≡ lengths_fit head lengths)
 
-abbrev decreases-loop : tie.decreases-loop
-decreases-loop contents lengths head offset₀ i₀ offset i = length lengths - i
+abbrev decreases-loop-i : tie.decreases-loop-i
+decreases-loop-i contents lengths head offset₀ i₀ offset i = length lengths - i
 
-abbrev sizes : tie.At-loop invariant-loop decreases-loop → List ℕ
-sizes c = c.before.before.before.args.lengths.now
+abbrev sizes : tie.At-loop-i invariant-loop-i decreases-loop-i → List ℕ
+sizes c = c.args.lengths.now
 
 -- all of the lengths fit as those do that are left
-as_left : (c : tie.At-loop invariant-loop decreases-loop)
-    → lengths_fit (head_bytes (length (sizes c))) (sizes c) ≡ lengths_fit c.loop.offset (drop c.loop.i (sizes c))
-as_left c = ap (λ (head : ℕ). lengths_fit head (sizes c)) (sym c.before.head_bytes.ensures) ∙ sym c.loop.invariant.3
+as_left : (c : tie.At-loop-i invariant-loop-i decreases-loop-i)
+    → lengths_fit (head_bytes (length (sizes c))) (sizes c) ≡ lengths_fit c.loop-i.offset (drop c.loop-i.i (sizes c))
+as_left c = ap (λ (head : ℕ). lengths_fit head (sizes c)) (sym c.head_bytes-head.ensures) ∙ sym c.loop-i.invariant.3
 
-pub would-break-spec : {M : Type 1} → statement M
-would-break-spec =
+pub would_break_spec : {M : Type 1} → statement M
+would_break_spec =
     tie.close
     (tie.spec
-    invariant-loop
-    decreases-loop
+    invariant-loop-i
+    decreases-loop-i
     (λ c κs. search rules)
     (λ c. search rules)
     (λ c. search rules)
     (λ c. search rules)
     (λ c.
-    let at = c.before.before.before in
-    broken (sizes at) _ (as_left at ∙ unfit_empty (sizes at) at.loop.i at.loop.offset c.before.before.loop-test.true c.if1.true))
+    broken (sizes c.before.before.before) _ (as_left c.before.before.before ∙ unfit_empty (sizes c.before.before.before) c.loop-i.i c.loop-i.offset c.loop-i-test.true c.if-size-eq0.true))
     (λ c.
-    let at = c.before.before.before.before in
-    broken (sizes at) _ (as_left at ∙ unfit_long (sizes at) at.loop.i at.loop.offset c.before.before.before.loop-test.true c.if2.true))
+    broken (sizes c.before.before.before.before) _ (as_left c.before.before.before.before ∙ unfit_long (sizes c.before.before.before.before) c.loop-i.i c.loop-i.offset c.loop-i-test.true c.if-size-gt-MAX_NUMBER.true))
     (λ c.
-    let p = c.before.before in
-    let at = p.before.before.before in
-    broken (sizes at) _
-    (as_left at ∙ unfit_far (sizes at) at.loop.i at.loop.offset p.before.before.loop-test.true p.if1.false c.before.if2.false c.if3.true))
+    broken (sizes c.before.before.before.before.before) _
+    (as_left c.before.before.before.before.before ∙ unfit_far (sizes c.before.before.before.before.before) c.loop-i.i c.loop-i.offset c.loop-i-test.true c.if-size-eq0.false c.if-size-gt-MAX_NUMBER.false c.if-offset-gt-MAX_NUMBER.true))
     (λ c. search rules)
     (λ c. search rules)
     (λ c. search rules)
     (λ c.
-    let p = c.before.before in
-    let at = p.before.before.before in
-    let l = at.loop in
-    let more = p.before.before.loop-test.true in (
+    let l = c.loop-i in
+    let more = c.loop-i-test.true in (
       search rules,
       search rules,
-      omega (arith, l.invariant.2, total-at (sizes at) l.i more),
-      sym (fit_next (sizes at) l.i l.offset more p.if1.false c.before.if2.false c.if3.false) ∙ l.invariant.3,
+      omega (arith, l.invariant.2, total-at (sizes c.before.before.before.before.before) l.i more),
+      sym (fit_next (sizes c.before.before.before.before.before) l.i l.offset more c.if-size-eq0.false c.if-size-gt-MAX_NUMBER.false c.if-offset-gt-MAX_NUMBER.false) ∙ l.invariant.3,
     ))
     (λ c. search rules)
     (λ c.
-    let at = c.before in
-    let l = at.loop in
-    let over = c.loop-test.false in
-    adds_up (sizes at) _ _ (as_left at ∙ fit_end (sizes at) l.i l.offset over) (omega (arith, l.invariant.2, total_end (sizes at) l.i over))))
+    let l = c.loop-i in
+    let over = c.loop-i-test.false in
+    adds_up (sizes c.before) _ _ (as_left c.before ∙ fit_end (sizes c.before) l.i l.offset over) (omega (arith, l.invariant.2, total_end (sizes c.before) l.i over))))

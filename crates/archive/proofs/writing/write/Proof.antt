@@ -15,50 +15,45 @@ use Rattle.archive.proofs.writing.write.Statement.{statement}
 use Rattle.archive.proofs.writing.write.Tie as tie
 
 -- before the tests for 13 and 10: the entry, and the file's length
-abbrev start : tie.After-head-bytes → tie.Start
+abbrev start : tie.After-head_bytes-head → tie.Start
 start c = c.before.before.before.before.before.before
 
-bytes_are : (c : tie.After-head-bytes)
-    → c.head_bytes.result + length (start c).args.contents.now ≡ file_bytes (length (start c).args.contents.now) (start c).args.lengths.now
-bytes_are c = ap (λ (head : ℕ). head + length (start c).args.contents.now) c.head_bytes.ensures
+bytes_are : (c : tie.After-head_bytes-head)
+    → c.head_bytes-head.result + length (start c).args.contents.now ≡ file_bytes (length (start c).args.contents.now) (start c).args.lengths.now
+bytes_are c = ap (λ (head : ℕ). head + length (start c).args.contents.now) c.head_bytes-head.ensures
 
 -- past the test for 13
-unbroken_here : (c : tie.Else2) → would_break (length (start c.before).args.contents.now) (start c.before).args.lengths.now ≡ false
-unbroken_here c = sym c.before.before.would_break_lem.ensures ∙ c.if2.false
+unbroken_here : (c : tie.Else-broken) → would_break (length (start c.before).args.contents.now) (start c.before).args.lengths.now ≡ false
+unbroken_here c = sym c.would_break-broken.ensures ∙ c.if-broken.false
 
 pub write_spec : {M : Type 1} → statement M
 unfolding write_refusal write_answer write_output
 write_spec =
     tie.close
     (tie.spec
-    (λ c. refuses _ (stop_over c.if1.true))
+    (λ c. refuses _ (stop_over c.if-lengths-gt-MAX_ENTRIES.true))
     (λ c κs. search rules)
     (λ c κs. search rules)
     (λ c. search rules)
-    (λ c. refuses _ (pass_within 12 c.before.before.before.if1.false (stop_true (sym c.before.before.would_break_lem.ensures ∙ c.if2.true))))
+    (λ c. refuses _ (pass_within 12 c.if-lengths-gt-MAX_ENTRIES.false (stop_true (sym c.would_break-broken.ensures ∙ c.if-broken.true))))
     (λ c.
     refuses _
-    (pass_within 12 c.before.before.before.before.if1.false
-    (pass_false 13 (unbroken_here c.before) (stop_other (λ same. c.if3.true (same ∙ sym (bytes_are c.before.before)))))))
+    (pass_within 12 c.if-lengths-gt-MAX_ENTRIES.false
+    (pass_false 13 (unbroken_here c.before) (stop_other (λ same. c.if-out-bytes.true (same ∙ sym (bytes_are c.before.before)))))))
     (λ c κs.
-    let e = c.before in
-    let room = e.if3.false ∙ bytes_are e.before.before in
-    (e.before.before.before.before.if1.false, (unbroken _ _ (unbroken_here e.before)).0, omega (arith, room)))
+    let room = c.if-out-bytes.false ∙ bytes_are c.before.before.before in
+    (c.if-lengths-gt-MAX_ENTRIES.false, (unbroken _ _ (unbroken_here c.before.before)).0, omega (arith, room)))
     (λ c κs. search rules)
     (λ c. search rules)
     (λ c.
-    let put = c.before.before in
-    let head = put.before.before.before.before in
-    let e = head.before.before in
-    let h = e.before.before in
-    let x = (start h).args in
-    let none = unbroken_here e.before in
-    let way = answers (pass_within 12 h.before.before.if1.false (pass_false 13 none (pass_same 10 (e.if3.false ∙ bytes_are h) done))) in
-    let room = head.put-head.auto.1.0 ∙ e.if3.false ∙ bytes_are h in
-    rw (bytes_are h) (
+    let x = (start c.before.before.before.before.before.before.before.before.before.before).args in
+    let none = unbroken_here c.before.before.before.before.before.before.before.before.before in
+    let way = answers (pass_within 12 c.if-lengths-gt-MAX_ENTRIES.false (pass_false 13 none (pass_same 10 (c.if-out-bytes.false ∙ bytes_are c.before.before.before.before.before.before.before.before.before.before) done))) in
+    let room = c.put_head.auto.out ∙ c.if-out-bytes.false ∙ bytes_are c.before.before.before.before.before.before.before.before.before.before in
+    rw (bytes_are c.before.before.before.before.before.before.before.before.before.before) (
       way,
       rw (answered_none _ _ _ way).0
-          (put.put-contents.ensures
-          ∙ after_head x.lengths.now x.contents.now _ _ h.head_bytes.ensures room head.put-head.ensures
+          (c.put_contents.ensures
+          ∙ after_head x.lengths.now x.contents.now _ _ c.head_bytes-head.ensures room c.put_head.ensures
           ∙ sym (cut-laid x.lengths.now x.contents.now (unbroken _ _ none).1)),
     )))

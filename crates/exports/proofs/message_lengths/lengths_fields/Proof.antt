@@ -7,12 +7,12 @@ use Rattle.exports.specs.Fields.{told_fields}
 use Rattle.exports.proofs.message_lengths.lengths_fields.Statement.{statement}
 use Rattle.exports.proofs.message_lengths.lengths_fields.Tie as tie
 
-pub lengths-fields-spec : {M : Type 1} → statement M
-lengths-fields-spec =
+pub lengths_fields_spec : {M : Type 1} → statement M
+lengths_fields_spec =
     tie.close
     (tie.spec
     (λ c. search rules)
     (λ c. search rules)
     (λ c. search rules)
-    (λ c. sym (ap (λ answer. told_fields (lengths_outcome answer)) c.before.answer.given.1))
-    (λ c. sym (ap (λ answer. told_fields (lengths_outcome answer)) c.before.answer2.given.1)))
+    (λ c. sym (ap (λ answer. told_fields (lengths_outcome answer)) c.in-Lengths.is))
+    (λ c. sym (ap (λ answer. told_fields (lengths_outcome answer)) c.in-Refused.is)))

@@ -7,12 +7,12 @@ use Rattle.exports.specs.Fields.{opened_fields}
 use Rattle.exports.proofs.padded.padded_fields.Statement.{statement}
 use Rattle.exports.proofs.padded.padded_fields.Tie as tie
 
-pub padded-fields-spec : {M : Type 1} → statement M
-padded-fields-spec =
+pub padded_fields_spec : {M : Type 1} → statement M
+padded_fields_spec =
     tie.close
     (tie.spec
     (λ c. search rules)
     (λ c. search rules)
     (λ c. search rules)
-    (λ c. sym (ap (λ answer. opened_fields (padded_outcome answer)) c.before.answer.given.1))
-    (λ c. sym (ap (λ answer. opened_fields (padded_outcome answer)) c.before.answer2.given.1)))
+    (λ c. sym (ap (λ answer. opened_fields (padded_outcome answer)) c.in-Opened.is))
+    (λ c. sym (ap (λ answer. opened_fields (padded_outcome answer)) c.in-Refused.is)))

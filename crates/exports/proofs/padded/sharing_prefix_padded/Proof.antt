@@ -6,7 +6,7 @@ use Rattle.exports.specs.Fields.{value_fields}
 use Rattle.exports.proofs.padded.sharing_prefix_padded.Statement.{statement}
 use Rattle.exports.proofs.padded.sharing_prefix_padded.Tie as tie
 
-pub sharing-prefix-padded-spec : {M : Type 1} → statement M
-sharing-prefix-padded-spec =
+pub sharing_prefix_padded_spec : {M : Type 1} → statement M
+sharing_prefix_padded_spec =
     tie.close
-    (tie.spec (λ c κs. search rules) (λ c κs. search rules) (λ c. c.fields.ensures ∙ ap value_fields c.before.prefix-padded-length.ensures))
+    (tie.spec (λ c κs. search rules) (λ c κs. search rules) (λ c. c.fields.ensures ∙ ap value_fields c.prefix_padded_length.ensures))

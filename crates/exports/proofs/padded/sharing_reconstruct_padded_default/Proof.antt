@@ -6,7 +6,7 @@ use Rattle.exports.specs.Fields.{opened_fields}
 use Rattle.exports.proofs.padded.sharing_reconstruct_padded_default.Statement.{statement}
 use Rattle.exports.proofs.padded.sharing_reconstruct_padded_default.Tie as tie
 
-pub sharing-reconstruct-padded-default-spec : {M : Type 1} → statement M
-sharing-reconstruct-padded-default-spec =
+pub sharing_reconstruct_padded_default_spec : {M : Type 1} → statement M
+sharing_reconstruct_padded_default_spec =
     tie.close
-    (tie.spec (λ c κs. search rules) (λ c κs. search rules) (λ c. search rules) (λ c. (c.padded-fields.ensures ∙ ap opened_fields c.before.before.before.reconstruct-padded-default.ensures.0, c.before.before.before.reconstruct-padded-default.ensures.1)))
+    (tie.spec (λ c κs. search rules) (λ c κs. search rules) (λ c. search rules) (λ c. (c.padded_fields.ensures ∙ ap opened_fields c.reconstruct_padded_default.ensures.0, c.reconstruct_padded_default.ensures.1)))

@@ -17,8 +17,8 @@ refused-fields : (q : ℕ) → q ∷ 0 ∷ 0 ∷ [] ≡ rebuilt_fields (refused 
 refused-fields zero = refl
 refused-fields (suc q) = rw (ne_eqb (suc q) 0 (suc-ne-zero q))
 
-pub rebuild-fields-spec : {M : Type 1} → statement M
-rebuild-fields-spec =
+pub rebuild_fields_spec : {M : Type 1} → statement M
+rebuild_fields_spec =
     tie.close
     (tie.spec
     (λ c. search rules)
@@ -26,6 +26,6 @@ rebuild-fields-spec =
     (λ c. search rules)
     (λ c. search rules)
     (λ c. search rules)
-    (λ c. sym (ap (λ answer. rebuilt_fields (rebuild_outcome answer)) c.before.answer.given.1))
-    (λ c. sym (ap (λ answer. rebuilt_fields (rebuild_outcome answer)) c.before.answer2.given.1))
-    (λ c. refused-fields _ ∙ sym (ap (λ answer. rebuilt_fields (rebuild_outcome answer)) c.before.answer3.given.1)))
+    (λ c. sym (ap (λ answer. rebuilt_fields (rebuild_outcome answer)) c.in-Rebuilt.is))
+    (λ c. sym (ap (λ answer. rebuilt_fields (rebuild_outcome answer)) c.in-Disagreeing.is))
+    (λ c. refused-fields _ ∙ sym (ap (λ answer. rebuilt_fields (rebuild_outcome answer)) c.in-Refused.is)))

@@ -6,7 +6,7 @@ use Rattle.exports.specs.Fields.{rebuilt_fields}
 use Rattle.exports.proofs.rebuild.sharing_rebuild.Statement.{statement}
 use Rattle.exports.proofs.rebuild.sharing_rebuild.Tie as tie
 
-pub sharing-rebuild-spec : {M : Type 1} → statement M
-sharing-rebuild-spec =
+pub sharing_rebuild_spec : {M : Type 1} → statement M
+sharing_rebuild_spec =
     tie.close
-    (tie.spec (λ c κs. search rules) (λ c κs. search rules) (λ c. search rules) (λ c. (c.rebuild-fields.ensures ∙ ap rebuilt_fields c.before.before.before.rebuild.ensures.0, c.before.before.before.rebuild.ensures.1)))
+    (tie.spec (λ c κs. search rules) (λ c κs. search rules) (λ c. search rules) (λ c. (c.rebuild_fields.ensures ∙ ap rebuilt_fields c.rebuild.ensures.0, c.rebuild.ensures.1)))

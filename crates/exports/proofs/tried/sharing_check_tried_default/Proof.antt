@@ -6,7 +6,7 @@ use Rattle.exports.specs.Fields.{checked_tried_fields}
 use Rattle.exports.proofs.tried.sharing_check_tried_default.Statement.{statement}
 use Rattle.exports.proofs.tried.sharing_check_tried_default.Tie as tie
 
-pub sharing-check-tried-default-spec : {M : Type 1} → statement M
-sharing-check-tried-default-spec =
+pub sharing_check_tried_default_spec : {M : Type 1} → statement M
+sharing_check_tried_default_spec =
     tie.close
-    (tie.spec (λ c κs. search rules) (λ c κs. search rules) (λ c. c.tried-fields.ensures ∙ ap checked_tried_fields c.before.check-tried-default.ensures))
+    (tie.spec (λ c κs. search rules) (λ c κs. search rules) (λ c. c.tried_fields.ensures ∙ ap checked_tried_fields c.check_tried_default.ensures))

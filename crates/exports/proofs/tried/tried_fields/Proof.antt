@@ -7,12 +7,12 @@ use Rattle.exports.specs.Fields.{checked_tried_fields}
 use Rattle.exports.proofs.tried.tried_fields.Statement.{statement}
 use Rattle.exports.proofs.tried.tried_fields.Tie as tie
 
-pub tried-fields-spec : {M : Type 1} → statement M
-tried-fields-spec =
+pub tried_fields_spec : {M : Type 1} → statement M
+tried_fields_spec =
     tie.close
     (tie.spec
     (λ c. search rules)
     (λ c. search rules)
     (λ c. search rules)
-    (λ c. sym (ap (λ answer. checked_tried_fields (tried_outcome answer)) c.before.answer.given.1))
-    (λ c. sym (ap (λ answer. checked_tried_fields (tried_outcome answer)) c.before.answer2.given.1)))
+    (λ c. sym (ap (λ answer. checked_tried_fields (tried_outcome answer)) c.in-Accepted.is))
+    (λ c. sym (ap (λ answer. checked_tried_fields (tried_outcome answer)) c.in-Refused.is)))
