@@ -12,9 +12,8 @@ use Rattle.archive.proofs.reading.entry.Tie as tie
 
 -- the part stands in the file
 within : (c : tie.In-At)
-    → let place = c.place.given.0 in
-    place.0 + place.1.0 ≤ length c.args.file.now
-within c = part-within _ _ _ c.entry_IsPlace.ensures c.in-At.is
+    → c.in-At.offset + c.in-At.length ≤ length c.args.file.now
+within c = part-within _ _ _ c.entry_place-place.ensures c.in-At.is
 
 pub entry_spec : {M : Type 1} → statement M
 entry_spec =
@@ -25,14 +24,14 @@ entry_spec =
     (λ c. search rules)
     (λ c. sym (length-take-le _ c.args.file.now (search rules)))
     (λ c.
-    let e = c.entry_IsPlace.ensures in
+    let e = c.entry_place-place.ensures in
     let told = c.in_default.is in
-    (no_part _ _ _ e told, at-start _ _ _ e told c.args.file.ptr))
+    (no_part _ _ _ e told, at-start _ _ _ e told c.args.file.ref_ptr))
     (λ c. omega (arith, within c))
     (λ c. search rules)
     (λ c. search rules)
     (λ c. omega (arith, within c))
     (λ c.
-    let e = c.entry_IsPlace.ensures in
+    let e = c.entry_place-place.ensures in
     let told = c.in-At.is in
-    (part-told _ _ _ e told, start-told _ _ _ e told c.args.file.ptr)))
+    (part-told _ _ _ e told, start-told _ _ _ e told c.args.file.ref_ptr)))

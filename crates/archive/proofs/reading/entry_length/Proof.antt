@@ -12,5 +12,5 @@ entry_length_spec =
     (λ c κs. search rules)
     (λ c. search rules)
     (λ c. search rules)
-    (λ c. length-told _ _ _ c.entry_IsPlace.ensures c.in-At.is)
-    (λ c. length-refused _ _ _ c.entry_IsPlace.ensures c.in-Refused.is))
+    (λ c. length-told _ _ _ c.entry_place-place.ensures c.in-At.is)
+    (λ c. length-refused _ _ _ c.entry_place-place.ensures c.in-Refused.is))
