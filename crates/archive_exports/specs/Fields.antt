@@ -7,7 +7,7 @@ use Rattle.exports.specs.Fields.{answer_fields, value_fields}
 use Rattle.archive.specs.Writing.{write_answer, write_output}
 use Rattle.archive_exports.specs.declared.ArchiveEntryAnswer.{ArchiveEntryAnswer}
 -- of an answer with two values, as the first library has it for its opener of padded messages
-pub use Rattle.exports.specs.Fields.{opened_fields as placeFields}
+pub use Rattle.exports.specs.Fields.{opened_fields as place_fields}
 
 -- of a lookup: where the entry starts, and its length
 abbrev pub entry_fields : ArchiveEntryAnswer → List ℕ

@@ -6,7 +6,7 @@ ghost use Rattle.std.specs.Prelude.{◌≡◌};
 ghost use Rattle.scheme.specs.Outcome.{outcome};
 ghost use Rattle.exports.specs.Fields.{answer_fields, value_fields};
 ghost use Rattle.archive.specs.Reading.{count_answer, entry_outcome, place_answer};
-ghost use Rattle.archive_exports.specs.Fields.{entry_fields, placeFields, WriteFields};
+ghost use Rattle.archive_exports.specs.Fields.{entry_fields, place_fields, WriteFields};
 
 use archive::EntryAnswer;
 use exports::SharingAnswer;
@@ -38,7 +38,7 @@ fn fields(answer: Answer) -> SharingAnswer
 }
 
 fn entry_fields(answer: EntryAnswer) -> ArchiveEntryAnswer
-    ensures { entry_fields result ≡ placeFields (entry_outcome answer) }
+    ensures { entry_fields result ≡ place_fields (entry_outcome answer) }
 {
     match answer {
         EntryAnswer::At { offset, length } => ArchiveEntryAnswer {
@@ -70,7 +70,7 @@ pub extern "C" fn archive_count(file: &[u8]) -> SharingAnswer
 
 #[unsafe(no_mangle)]
 pub extern "C" fn archive_entry(file: &[u8], number: usize) -> ArchiveEntryAnswer
-    ensures { entry_fields result ≡ placeFields (place_answer file.now number) }
+    ensures { entry_fields result ≡ place_fields (place_answer file.now number) }
 {
     entry_fields(archive::entry_place(file, number))
 }

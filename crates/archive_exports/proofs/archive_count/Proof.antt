@@ -6,6 +6,6 @@ use Rattle.exports.specs.Fields.{value_fields}
 use Rattle.archive_exports.proofs.archive_count.Statement.{statement}
 use Rattle.archive_exports.proofs.archive_count.Tie as tie
 
-pub archive-count-spec : {M : Type 1} → statement M
-archive-count-spec =
-    tie.close (tie.spec (λ c κs. search rules) (λ c κs. search rules) (λ c. c.fields.ensures ∙ ap value_fields c.before.count.ensures))
+pub archive_count_spec : {M : Type 1} → statement M
+archive_count_spec =
+    tie.close (tie.spec (λ c κs. search rules) (λ c κs. search rules) (λ c. c.fields.ensures ∙ ap value_fields c.count.ensures))

@@ -6,11 +6,11 @@ use Rattle.exports.specs.Fields.{value_fields}
 use Rattle.archive_exports.proofs.archive_write.Statement.{statement}
 use Rattle.archive_exports.proofs.archive_write.Tie as tie
 
-pub archive-write-spec : {M : Type 1} → statement M
-archive-write-spec =
+pub archive_write_spec : {M : Type 1} → statement M
+archive_write_spec =
     tie.close
     (tie.spec
     (λ c κs. search rules)
     (λ c κs. search rules)
     (λ c. search rules)
-    (λ c. (c.fields.ensures ∙ ap value_fields c.before.before.before.write.ensures.0, c.before.before.before.write.ensures.1)))
+    (λ c. (c.fields.ensures ∙ ap value_fields c.write.ensures.0, c.write.ensures.1)))

@@ -3,16 +3,16 @@
 use mathlib.Core.Path.{sym, ap}
 use borrow.Author.Rules.{rules}
 use Rattle.archive.specs.Reading.{entry_outcome}
-use Rattle.archive_exports.specs.Fields.{placeFields}
+use Rattle.archive_exports.specs.Fields.{place_fields}
 use Rattle.archive_exports.proofs.entry_fields.Statement.{statement}
 use Rattle.archive_exports.proofs.entry_fields.Tie as tie
 
-pub entry-fields-spec : {M : Type 1} → statement M
-entry-fields-spec =
+pub entry_fields_spec : {M : Type 1} → statement M
+entry_fields_spec =
     tie.close
     (tie.spec
     (λ c. search rules)
     (λ c. search rules)
     (λ c. search rules)
-    (λ c. sym (ap (λ answer. placeFields (entry_outcome answer)) c.before.answer.given.1))
-    (λ c. sym (ap (λ answer. placeFields (entry_outcome answer)) c.before.answer2.given.1)))
+    (λ c. sym (ap (λ answer. place_fields (entry_outcome answer)) c.in-At.is))
+    (λ c. sym (ap (λ answer. place_fields (entry_outcome answer)) c.in-Refused.is)))

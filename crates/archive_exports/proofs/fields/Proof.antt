@@ -7,12 +7,12 @@ use Rattle.exports.specs.Fields.{value_fields}
 use Rattle.archive_exports.proofs.fields.Statement.{statement}
 use Rattle.archive_exports.proofs.fields.Tie as tie
 
-pub fields-spec : {M : Type 1} → statement M
-fields-spec =
+pub fields_spec : {M : Type 1} → statement M
+fields_spec =
     tie.close
     (tie.spec
     (λ c. search rules)
     (λ c. search rules)
     (λ c. search rules)
-    (λ c. sym (ap (λ answer. value_fields (outcome answer)) c.before.answer.given.1))
-    (λ c. sym (ap (λ answer. value_fields (outcome answer)) c.before.answer2.given.1)))
+    (λ c. sym (ap (λ answer. value_fields (outcome answer)) c.in-Value.is))
+    (λ c. sym (ap (λ answer. value_fields (outcome answer)) c.in-Refused.is)))
