@@ -16,7 +16,7 @@ use Rattle.lists.proofs.Tests.{lt_or_le}
 use Rattle.scheme.specs.Check.{rows_of_count}
 use Rattle.scheme.specs.Facts.{SchemeFacts}
 use Rattle.staircase.specs.Coefficients.{group_of, count_of}
-use Rattle.staircase.proofs.Groups.{counts_fall, rows_rise, rows_rise_strictly, group_past, group_within, group_least, group_is}
+use Rattle.staircase.proofs.Groups.{counts_fall, rows_rise, group_past, group_within, group_least, group_is}
 use Rattle.staircase.proofs.Order.{Order, order}
 use Rattle.order.specs.ReadingOrder.{group_number, rows_before, group_rows, groups_down, reading_order, row_in_turn, Turns}
 

@@ -14,7 +14,7 @@ use Rattle.scheme.specs.Facts.{SchemeIs}
 use Rattle.scheme.specs.Outcome.{accepted, first_of}
 use Rattle.scheme.specs.Check.{block_count}
 use Rattle.scheme.proofs.Laws.{answer_none}
-use Rattle.staircase.specs.Parameters.{Parameters, block, blocks_of, prefix_rows, parameters_of}
+use Rattle.staircase.specs.Parameters.{Parameters, blocks_of, prefix_rows, parameters_of}
 use Rattle.staircase.specs.Exactness.{prefix_bytes, opened_string}
 use Rattle.staircase.proofs.Sizes.{blocks_are}
 use Rattle.order.specs.RowsTaken.{rows_taken}

@@ -4,7 +4,7 @@ use mathlib.Core.Path.{◌≡◌, refl, ap, ap₂, ◌∙◌}
 use mathlib.Core.Bool.{true, false, cond}
 use mathlib.Core.List.{List, [], ◌∷◌}
 use mathlib.Core.Logic.{⊎_elim}
-use Prim.Native.Nat.{ℕ, ◌+◌, ◌-◌, ◌*◌, ◌≤◌, ◌<◌}
+use Prim.Native.Nat.{ℕ, ◌-◌, ◌*◌, ◌≤◌, ◌<◌}
 use native.Mathlib.Nat.{mul-le-mul, mul-le-mul_right, mul_comm, eq-zero-or-pos, le_of_eq, le_refl}
 use native.Mathlib.Omega.{arith}
 use lib.Dec.{eqb}
@@ -18,7 +18,7 @@ use Rattle.scheme.specs.Outcome.{Outcome, accepted, refused, first_of}
 use Rattle.scheme.specs.Padding.{most_padded, blocks_held}
 use Rattle.scheme.specs.Readers.{readers_refused}
 use Rattle.scheme.proofs.Laws.{Way, refuses, answer-number, scheme_own, held-told, padded_count_few, parties_few}
-use Rattle.staircase.specs.Parameters.{Parameters, parameters_of, block, rows, share_bytes}
+use Rattle.staircase.specs.Parameters.{Parameters, parameters_of, share_bytes}
 use Rattle.rows.proofs.Scheme.{facts_of, rows_high}
 use Rattle.agreement.specs.Agreement.{agrees}
 use Rattle.reader.specs.declared.rebuilding.RebuildAnswer.{RebuildAnswer}

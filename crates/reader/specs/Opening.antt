@@ -5,7 +5,7 @@ use Rattle.std.specs.Prelude.{◌≡◌, Bool, true, false, List, [], ◌∷◌,
 use Rattle.scheme.specs.declared.Answer.{Answer}
 use Rattle.scheme.specs.Outcome.{Outcome, answer, outcome}
 use Rattle.staircase.specs.Parameters.{Parameters, prefix_rows, blocks_of}
-use Rattle.order.specs.RowsTaken.{rows_taken, Wanted}
+use Rattle.order.specs.RowsTaken.{Wanted}
 use Rattle.reader.specs.declared.taking.Take.{Take}
 use Rattle.reader.specs.declared.taking.Take.TheVariants.{All, Needed}
 use Rattle.reader.specs.Range.{taken_rows, range_refusal, range_output}

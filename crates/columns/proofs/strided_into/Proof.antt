@@ -57,8 +57,7 @@ strided_into_spec =
     (λ c. search rules)
     (λ c. search rules)
     (λ c. omega (arith, c.loop-turn.invariant.1.long))
-    (λ c κs.
-    (
+    (λ c κs. (
       part_length (c.loop-turn.turn * 4) 4 c.loop-turn.out (omega (arith, c.loop-turn.invariant.1.long)),
       omega (arith, add-mul (c.loop-turn.turn * 4) 3 (start c.before.before).args.step, inside c.before.before (c.loop-turn.turn * 4 + 3) (omega (arith, c.loop-turn.invariant.1.long))),
     ))

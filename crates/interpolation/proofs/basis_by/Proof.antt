@@ -6,7 +6,6 @@ use Prim.Native.Nat.{◌-◌}
 use native.Mathlib.Omega.{arith}
 use lib.ListN.{length}
 use borrow.Author.Rules.{rules}
-use borrow.Author.Tests.{not-true, not-false}
 use Rattle.interpolation.proofs.Rows.{zeros, zero-rows, Rows, not-distinct, rows_none, rows_more, rows_all}
 use Rattle.interpolation.proofs.basis_by.Statement.{statement}
 use Rattle.interpolation.proofs.basis_by.Tie as tie

@@ -37,8 +37,7 @@ times_linear_spec =
     (λ c. search rules)
     (λ c. search rules)
     (λ c. search rules)
-    (λ c.
-    (
+    (λ c. (
       search rules,
       known_more c.loop-e.invariant.1 (omega arith)
           (ap₂ ◌⊕◌ c.loop-e.invariant.2 (c.mul_by_shifting.ensures ∙ ⊗_comm _ _) ∙ sym (linear-at c.args.point c.args.poly c.loop-e.e))

@@ -142,8 +142,7 @@ fill_shares_spec =
     (p.limit, few_rows (first c.before.before.before), omega (arith, p.sizes), omega arith, (row_of c.before.before.before).row-test.true, few c.before.before.before.before.before.before, c.batch.invariant.2, origins.long, origins.below, record { length_is = sym (div-add-mod' _ _); inside = mod-lt _ p.least.positive }))
     (λ c. omega (arith, few_parties (parties_of c.before.before.before.before.before.before)))
     (λ c. sym (points_long (parties_of c.before.before.before.before.before.before.before)))
-    (λ c κs.
-    (
+    (λ c κs. (
       (batch c.before.before.before.before.before.before.before).0,
       omega (arith, within c.before.before.before.before.before.before.before),
       c.batch.invariant.3.long ∙ ap (λ (n : ℕ). n * ((first c.before.before.before.before.before.before.before.before).args.s.rows * (first c.before.before.before.before.before.before.before.before).args.blocks)) (sym (points_long (parties_of c.before.before.before.before.before.before.before.before))),

@@ -36,8 +36,7 @@ opening_weights_spec =
     (λ c. search rules)
     (λ c. search rules)
     (λ c. search rules)
-    (λ c.
-    (
+    (λ c. (
       omega arith,
       omega (arith, c.if-end-d.false),
       opening_more _ _ _ c.smaller-end.ensures _ 0 _ _ (omega arith) c.if-end-d.false

@@ -7,7 +7,6 @@ use native.Mathlib.Omega.{arith}
 use lib.ListN.{length}
 use borrow.Author.Count.{below_more}
 use borrow.Author.Rules.{rules}
-use borrow.Author.Tests.{not-true, not-false}
 use Rattle.lists.specs.Each.{Each, Byte}
 use Rattle.lists.proofs.Each.{each_of}
 use Rattle.reader.specs.Agreeing.{same_at}
@@ -40,8 +39,7 @@ agree_spec =
     (λ c. search rules)
     (λ c. lost_few (start c.before.before.before.before).requires.0.0)
     (λ c κs. few (start c.before.before.before.before).requires.0.0)
-    (λ c.
-    (
+    (λ c. (
       lent_fits (start c.before.before.before.before.before).requires.0.0 c.lent_count-a.result c.lent_count-a.ensures,
       refl,
       test-first (start c.before.before.before.before.before).requires.0.0 (bytes_of c.before.before.before.before.before) c.lent_count-a.result c.lent_count-a.ensures,

@@ -41,8 +41,7 @@ name_spec =
     (zero-le, refl, refl, rw whole))
     (λ c κs.
     lending_without (start c.before.before).requires.0 (omega (arith, c.if-parties-d.false)) c.loop-i.i c.loop-i-test.true)
-    (λ c κs.
-    (
+    (λ c κs. (
       (lending_without (start c.before.before.before.before.before.before).requires.0 (omega (arith, c.if-parties-d.false)) c.loop-i.i c.loop-i-test.true, c.first_weights-weights.ensures),
       (c.loop-i.invariant.1 ∙ (start c.before.before.before.before.before.before).requires.1.0, c.loop-i.invariant.2 ∙ (start c.before.before.before.before.before.before).requires.1.1),
     ))
@@ -58,8 +57,7 @@ name_spec =
     (λ c.
     omega (arith, (in-loop c.before.before.before.before.before).loop-i-test.true))
     (λ c.
-    let l = (in-loop c.before.before.before.before.before).loop-i in
-    (
+    let l = (in-loop c.before.before.before.before.before).loop-i in (
       omega (arith, (in-loop c.before.before.before.before.before).loop-i-test.true),
       c.agree.auto.work ∙ l.invariant.1,
       c.agree.auto.share ∙ l.invariant.2,

@@ -22,8 +22,7 @@ pub decode_batch_spec : {M : Type 1} → statement M
 decode_batch_spec =
     tie.close
     (tie.spec
-    (λ c κs.
-    (
+    (λ c κs. (
       c.requires.0.1.top_low,
       c.requires.0.1.top_high,
       omega (arith, small c.before.before.before.before, c.requires.0.0.block_high),
@@ -34,8 +33,7 @@ decode_batch_spec =
     omega (arith, c.requires.0.1.inside, c.requires.1.1))
     (λ c κs.
     ((c.requires.0.0, c.known.ensures.long), (omega (arith, c.requires.1.0), omega (arith, c.requires.1.1, c.requires.0.1.inside), c.requires.1.2)))
-    (λ c κs.
-    (
+    (λ c κs. (
       (c.load_parties.ensures.1.long, (start c.before.before.before).requires.0.0.z_low, (start c.before.before.before).requires.0.0.d_high, (start c.before.before.before).requires.0.1.top_high),
       (
         (start c.before.before.before).requires.1.0,
@@ -48,8 +46,7 @@ decode_batch_spec =
     (λ c.
     c.load_parties.ensures.1.long ∙ sym (start c.before.before.before.before.before.before).requires.0.2)
     (λ c. c.solve_batch.auto.work)
-    (λ c.
-    (
+    (λ c. (
       c.load_parties.ensures.0,
       λ B points W R H.
           c.solve_batch.ensures B

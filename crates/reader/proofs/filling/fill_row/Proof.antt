@@ -73,8 +73,7 @@ fill_row_spec =
     (λ c. search rules)
     (λ c κs. search rules)
     (λ c. sym c.loop-t.invariant.2)
-    (λ c κs.
-    (
+    (λ c κs. (
       (st c.before).requires.0.1.top_low,
       (st c.before).requires.0.1.top_high,
       omega (arith, small c.before, (st c.before).requires.0.0.block_high),
@@ -95,8 +94,7 @@ fill_row_spec =
     (λ c. search rules)
     (λ c. search rules)
     (λ c. omega (arith, room (to_batch c.before.before.before)))
-    (λ c κs.
-    (
+    (λ c κs. (
       (c.load_parties.ensures.1.long, omega arith, omega arith, (st (to_batch c.before.before.before.before)).requires.0.1.top_high),
       (
         (batch (to_batch c.before.before.before.before)).0,

@@ -115,8 +115,7 @@ reconstruct_padded_spec =
     (λ c.
     refuses _
     (pass (is (ordered c.before)).passed (pass_false 6 (counted_test (ordered c.before)) (pass_false 7 (rising (ordered c.before)) (pass_false 9 (some_blocks (told c.before)) (stop_other (λ q. c.if-out-size.true (q ∙ sym (size_is (told c.before))))))))))
-    (λ c κs.
-    (
+    (λ c κs. (
       (counted_told (told c.before.before), rw (is (ordered c.before.before)).n_is (rising (ordered c.before.before))),
       (sought_fits (told c.before.before) _ c.if-out-size.false, sought_turns (told c.before.before) _ _ (held c.before.before).rows_of_count-rows.ensures),
     ))

@@ -21,7 +21,6 @@ use Rattle.scheme.proofs.Laws.{Way, accepted-scheme, refuses, numbered, done, pa
 use Rattle.staircase.specs.Parameters.{Parameters, parameters, blocks_of}
 use Rattle.staircase.specs.Exactness.{prefix_bytes}
 use Rattle.staircase.proofs.Sizes.{count_most, blocks_are, blocks_few}
-use Rattle.reader.specs.Decoding.{Counted}
 use Rattle.reader.specs.Range.{range_refusal, range_output}
 use Rattle.reader.specs.Opening.{opened_answer}
 use Rattle.reader.proofs.CountedScheme.{counted_of}

@@ -147,8 +147,7 @@ rebuild_spec =
     turns_away _ _ (passed (held c.before) (pass_same 9 (long c.before) (stop_true (copy_test c.before.before ∙ c.if-unlike.true)))))
     (λ c.
     turns_away _ _ (passed (held c.before.before) (pass_same 9 (long c.before.before) (pass_false 9 (copy_test c.before.before.before ∙ c.if-unlike.false) (stop_other (λ q. c.if-out-size.true (q ∙ sym (size (held c.before.before)))))))))
-    (λ c κs.
-    (
+    (λ c κs. (
       lends (p (k (held c.before.before.before))) (scheme (k (held c.before.before.before))) (is (k (held c.before.before.before))) (st (k (held c.before.before.before))).args.parties.now (st (k (held c.before.before.before))).args.shares.now (N (held c.before.before.before)) (rising (ordered (enough (held c.before.before.before)))) (many (enough (held c.before.before.before))) (blocks_high (p (k (held c.before.before.before))) (scheme (k (held c.before.before.before))) (is (k (held c.before.before.before))) _ _ (N (held c.before.before.before)) (held_is (held c.before.before.before))) c.if-shares-many.false,
       (room_fits (p (k (held c.before.before.before))) (scheme (k (held c.before.before.before))) (is (k (held c.before.before.before))) _ _ (N (held c.before.before.before)) (held_is (held c.before.before.before)), c.if-out-size.false ∙ mul_comm (N (held c.before.before.before)) (scheme (k (held c.before.before.before))).rows),
     ))

@@ -2,7 +2,6 @@
 -- Assumes nothing.
 use mathlib.Core.Path.{refl, sym, ap, ◌∙◌}
 use borrow.Author.Rules.{rules}
-use borrow.Author.Tests.{not-true, not-false}
 use Rattle.lists.specs.Differing.{differing}
 use Rattle.reader.proofs.Lending.{agrees_whole, rebuilt_whole}
 use Rattle.reader.proofs.rebuilding.rebuild_with.Statement.{statement}

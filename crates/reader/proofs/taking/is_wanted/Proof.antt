@@ -1,7 +1,5 @@
 -- `reader::taking::is_wanted` meets its contract: a place before the start is reached around the block's end.
 -- Assumes nothing.
-use mathlib.Core.Path.{sym, ap}
-use lib.Dec.{ltb}
 use borrow.Author.Rules.{rules}
 use Rattle.reader.proofs.TurnSearch.{onwards, around}
 use Rattle.reader.proofs.taking.is_wanted.Statement.{statement}

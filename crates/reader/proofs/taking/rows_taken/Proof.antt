@@ -75,8 +75,7 @@ rows_taken_spec =
     (λ c. search rules)
     (λ c κs. search rules)
     (λ c κs. search rules)
-    (λ c κs.
-    (
+    (λ c κs. (
       (A (st c.before.before.before).requires).limit,
       mod-lt (st c.before.before.before).args.start (A (st c.before.before.before).requires).least.positive,
       count_high (st c.before.before.before).requires,

@@ -1,6 +1,4 @@
 -- The digits of a number but the last are those of its tenth, which is less.
-use mathlib.Core.Path.{◌≡◌}
-use Prim.Native.Nat.{◌%◌}
 use native.Mathlib.Nat.{mod-eq_of_lt}
 use Rattle.sheet.proofs.Written.{adds_then}
 use Rattle.sheet.proofs.Decimal.{decimal_low, decimal_high}
