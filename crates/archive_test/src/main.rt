@@ -2,68 +2,66 @@
 // text. Then it damages the file.
 #![tactic(auto)]
 
-use libc::STDOUT_FILENO;
 use sharing::Answer;
+use std::io;
 
-fn main() {
+fn main(rt: HostRuntime) -> io::Result<()> {
     // 2 + 4 × 3 bytes before the entries, and 10 bytes of them.
     let mut file = [0u8; 24];
-    written(&mut file);
-    shown(&file);
-    damaged(&mut file);
+    written(&rt, &mut file)?;
+    shown(&rt, &file)?;
+    damaged(&rt, &mut file)?;
     let mut room = [7u8; 12];
-    tried(&mut room);
+    tried(&rt, &mut room)?;
     let mut short = [7u8; 11];
-    tried(&mut short);
+    tried(&rt, &mut short)
 }
 
-fn written(file: &mut [u8]) {
+fn written(rt: &impl Print, file: &mut [u8]) -> io::Result<()> {
     let lengths = [4usize, 5, 1];
-    told(archive::write(b"Callafter.", &lengths, file));
+    told(rt, archive::write(b"Callafter.", &lengths, file))
 }
 
-fn shown(file: &[u8]) {
-    told(archive::count(file));
-    entry(file, 0);
-    entry(file, 1);
-    entry(file, 2);
-    entry(file, 3);
+fn shown(rt: &impl Print, file: &[u8]) -> io::Result<()> {
+    told(rt, archive::count(file))?;
+    entry(rt, file, 0)?;
+    entry(rt, file, 1)?;
+    entry(rt, file, 2)?;
+    entry(rt, file, 3)
 }
 
 // The second offset is one too high, then a number is asked for that no entry has, then the count is too high.
-fn damaged(file: &mut [u8; 24]) {
+fn damaged(rt: &impl Print, file: &mut [u8; 24]) -> io::Result<()> {
     file[6] = 19;
-    told(archive::count(file));
-    entry(file, 3);
+    told(rt, archive::count(file))?;
+    entry(rt, file, 3)?;
     file[1] = 17;
-    entry(file, 3);
+    entry(rt, file, 3)
 }
 
 // Lengths that add up to the contents, and that do not: in the one case the length of the output decides.
-fn tried(out: &mut [u8]) {
-    told(archive::write(b"ab", &[1usize, 1], out));
-    told(archive::write(b"ab", &[1usize, 2], out));
+fn tried(rt: &impl Print, out: &mut [u8]) -> io::Result<()> {
+    told(rt, archive::write(b"ab", &[1usize, 1], out))?;
+    told(rt, archive::write(b"ab", &[1usize, 2], out))?;
     // If their sum wrapped, it would be 2.
     let halves = [9223372036854775809usize, 9223372036854775809];
-    told(archive::write(b"ab", &halves, out));
+    told(rt, archive::write(b"ab", &halves, out))
 }
 
 // The length of an entry, and the entry itself.
-fn entry(file: &[u8], number: usize) {
-    told(archive::entry_length(file, number));
-    io::write_all(STDOUT_FILENO, archive::entry(file, number));
-    io::write_all(STDOUT_FILENO, b"\n");
+fn entry(rt: &impl Print, file: &[u8], number: usize) -> io::Result<()> {
+    told(rt, archive::entry_length(file, number))?;
+    rt.write_all(archive::entry(file, number))?;
+    println!(rt)
 }
 
-fn told(answer: Answer) {
+fn told(rt: &impl Print, answer: Answer) -> io::Result<()> {
     match answer {
-        Answer::Value(value) => said(b"value ", value as u64),
-        Answer::Refused(refusal) => said(b"refused ", refusal as u64),
+        Answer::Value(value) => said(rt, "value ", value as u64),
+        Answer::Refused(refusal) => said(rt, "refused ", refusal as u64),
     }
 }
 
-fn said(text: &[u8], number: u64) {
-    io::write_all(STDOUT_FILENO, text);
-    io::print_decimal(STDOUT_FILENO, number);
-    io::write_all(STDOUT_FILENO, b"\n");
+fn said(rt: &impl Print, text: &str, number: u64) -> io::Result<()> {
+    println!(rt; "{text}{number}")
 }

@@ -1,21 +1,22 @@
 // The longest message, and one that is longer, through the three calls that are given a message's length.
 use crate::printing;
 use crate::shares::part;
+use std::io;
 
 // In the default scheme it makes 2,731 blocks of 6 bytes, with 6 rows each: 16,386 bytes a share, and twice as many keys.
-pub(crate) fn longest() {
+pub(crate) fn longest(rt: &impl Print) -> io::Result<()> {
     let mut message = [0u8; 16384];
     let mut out = [0u8; 16384];
     fill(&mut message);
-    show(&message, &mut out);
+    show(rt, &message, &mut out)
 }
 
 // A byte more makes as many blocks, so every other length is right for it too.
-pub(crate) fn too_long() {
+pub(crate) fn too_long(rt: &impl Print) -> io::Result<()> {
     let mut message = [0u8; 16385];
     let mut out = [0u8; 16385];
     fill(&mut message);
-    show(&message, &mut out);
+    show(rt, &message, &mut out)
 }
 
 // Bytes that differ from place to place.
@@ -28,25 +29,25 @@ fn fill(bytes: &mut [u8]) {
 }
 
 // Makes room for the keys and the shares.
-fn show(message: &[u8], out: &mut [u8]) {
+fn show(rt: &impl Print, message: &[u8], out: &mut [u8]) -> io::Result<()> {
     let keys = [3u8; 32772];
     let mut shares = [0u8; 81930];
-    printing::number(b"length", message.len());
+    printing::number(rt, "length", message.len())?;
     let written = sharing::split_default(message, &keys, &mut shares);
-    printing::answer(b" written", written);
-    show_back(message, &shares, out);
+    printing::answer(rt, " written", written)?;
+    show_back(rt, message, &shares, out)
 }
 
 // Asks for the prefix of a share, and opens the message from the first three shares, which are their own prefixes where three
 // parties are read.
-fn show_back(message: &[u8], shares: &[u8], out: &mut [u8]) {
+fn show_back(rt: &impl Print, message: &[u8], shares: &[u8], out: &mut [u8]) -> io::Result<()> {
     let length = sharing::prefix_length_default(message.len(), 3, part(shares, 0, 16386));
-    printing::answer(b" prefix", length);
+    printing::answer(rt, " prefix", length)?;
     let prefixes = part(shares, 0, 49158);
     let used = sharing::reconstruct_default(message.len(), &[1, 2, 3], prefixes, out);
-    printing::answer(b" used", used);
+    printing::answer(rt, " used", used)?;
     if check::same(message, out) {
-        printing::word(b" the same message");
+        printing::word(rt, " the same message")?;
     }
-    printing::end_line();
+    printing::end_line(rt)
 }

@@ -10,50 +10,44 @@ mod schemes;
 mod shares;
 
 use gf256::InverseAnswer;
-use libc::STDOUT_FILENO;
+use std::io;
 
-fn main() {
-    products();
-    print_inverse(0x02);
-    print_inverse(0x00);
-    schemes::scheme_a();
-    shares::rows();
-    shares::of_scheme_a();
-    openings::of_three();
-    openings::of_two();
-    shares::the_same_share();
-    shares::two_blocks();
-    schemes::limits();
-    schemes::two_parties();
-    schemes::tried();
-    lengths::longest();
-    lengths::too_long();
+fn main(rt: HostRuntime) -> io::Result<()> {
+    products(&rt)?;
+    print_inverse(&rt, 0x02)?;
+    print_inverse(&rt, 0x00)?;
+    schemes::scheme_a(&rt)?;
+    shares::rows(&rt)?;
+    shares::of_scheme_a(&rt)?;
+    openings::of_three(&rt)?;
+    openings::of_two(&rt)?;
+    shares::the_same_share(&rt)?;
+    shares::two_blocks(&rt)?;
+    schemes::limits(&rt)?;
+    schemes::two_parties(&rt)?;
+    schemes::tried(&rt)?;
+    lengths::longest(&rt)?;
+    lengths::too_long(&rt)
 }
 
-fn products() {
-    print_product(0x57, 0x83);
-    print_product(0x57, 0x13);
+fn products(rt: &impl Print) -> io::Result<()> {
+    print_product(rt, 0x57, 0x83)?;
+    print_product(rt, 0x57, 0x13)
 }
 
-fn print_product(a: u8, b: u8) {
-    io::print_hex(STDOUT_FILENO, a as u64, 2);
-    io::write_all(STDOUT_FILENO, b" * ");
-    io::print_hex(STDOUT_FILENO, b as u64, 2);
-    print_hex_result(gf256::mul(a, b));
+fn print_product(rt: &impl Print, a: u8, b: u8) -> io::Result<()> {
+    print!(rt; "{a:02x} * {b:02x}")?;
+    print_hex_result(rt, gf256::mul(a, b))
 }
 
-fn print_inverse(a: u8) {
-    io::write_all(STDOUT_FILENO, b"inverse of ");
-    io::print_hex(STDOUT_FILENO, a as u64, 2);
+fn print_inverse(rt: &impl Print, a: u8) -> io::Result<()> {
+    print!(rt; "inverse of {a:02x}")?;
     let InverseAnswer::Inverse(x) = gf256::inverse(a) else {
-        io::write_all(STDOUT_FILENO, b": none\n");
-        return;
+        return println!(rt; ": none");
     };
-    print_hex_result(x);
+    print_hex_result(rt, x)
 }
 
-fn print_hex_result(res: u8) {
-    io::write_all(STDOUT_FILENO, b" = ");
-    io::print_hex(STDOUT_FILENO, res as u64, 2);
-    io::write_all(STDOUT_FILENO, b"\n");
+fn print_hex_result(rt: &impl Print, made: u8) -> io::Result<()> {
+    println!(rt; " = {made:02x}")
 }

@@ -1,42 +1,41 @@
 // What is printed: words, each followed by numbers in decimal.
-use libc::STDOUT_FILENO;
 use sharing::Answer;
+use std::io;
 
-pub(crate) fn word(text: &[u8]) {
-    io::write_all(STDOUT_FILENO, text);
+pub(crate) fn word(rt: &impl Print, text: &str) -> io::Result<()> {
+    print!(rt; "{text}")
 }
 
-pub(crate) fn end_line() {
-    word(b"\n");
+pub(crate) fn end_line(rt: &impl Print) -> io::Result<()> {
+    println!(rt)
 }
 
-pub(crate) fn number(text: &[u8], value: usize) {
-    word(text);
-    word(b" ");
-    io::print_decimal(STDOUT_FILENO, value as u64);
+pub(crate) fn number(rt: &impl Print, text: &str, value: usize) -> io::Result<()> {
+    print!(rt; "{text} {value}")
 }
 
-pub(crate) fn byte(text: &[u8], value: u8) {
-    number(text, value as usize);
+pub(crate) fn byte(rt: &impl Print, text: &str, value: u8) -> io::Result<()> {
+    number(rt, text, value as usize)
 }
 
-pub(crate) fn bytes(text: &[u8], values: &[u8]) {
-    word(text);
+pub(crate) fn bytes(rt: &impl Print, text: &str, values: &[u8]) -> io::Result<()> {
+    word(rt, text)?;
     let mut i = 0;
     while i < values.len() {
-        byte(b"", values[i]);
+        byte(rt, "", values[i])?;
         i += 1;
     }
+    Ok(())
 }
 
-pub(crate) fn refused(number: u8) {
-    byte(b" refused", number);
+pub(crate) fn refused(rt: &impl Print, number: u8) -> io::Result<()> {
+    byte(rt, " refused", number)
 }
 
 // A call's answer, with a word for what it answers when it is accepted.
-pub(crate) fn answer(text: &[u8], answer: Answer) {
+pub(crate) fn answer(rt: &impl Print, text: &str, answer: Answer) -> io::Result<()> {
     match answer {
-        Answer::Value(value) => number(text, value),
-        Answer::Refused(number) => refused(number),
+        Answer::Value(value) => number(rt, text, value),
+        Answer::Refused(number) => refused(rt, number),
     }
 }

@@ -4,53 +4,53 @@
 mod counts;
 mod substitution;
 
-use libc::STDOUT_FILENO;
+use std::io;
 
-fn main() {
+fn main(rt: HostRuntime) -> io::Result<()> {
     print_count(
-        b"pairs with two different products: ",
+        &rt,
+        "pairs with two different products: ",
         counts::different_products(),
-    );
-    print_sum(0x57, 0x83);
-    print_product(0x57, 0x02);
-    print_product(0x57, 0x04);
-    print_product(0x57, 0x08);
-    print_product(0x57, 0x10);
-    print_product(0x57, 0x13);
-    print_product(0x57, 0x83);
+    )?;
+    print_sum(&rt, 0x57, 0x83)?;
+    print_product(&rt, 0x57, 0x02)?;
+    print_product(&rt, 0x57, 0x04)?;
+    print_product(&rt, 0x57, 0x08)?;
+    print_product(&rt, 0x57, 0x10)?;
+    print_product(&rt, 0x57, 0x13)?;
+    print_product(&rt, 0x57, 0x83)?;
     print_count(
-        b"bytes that give 1 times their inverse: ",
+        &rt,
+        "bytes that give 1 times their inverse: ",
         counts::inverses(),
-    );
-    substitution::print_all();
-    print_count(b"different sums of 64 bytes: ", counts::different_sums());
+    )?;
+    substitution::print_all(&rt)?;
     print_count(
-        b"different products of 64 bytes: ",
+        &rt,
+        "different sums of 64 bytes: ",
+        counts::different_sums(),
+    )?;
+    print_count(
+        &rt,
+        "different products of 64 bytes: ",
         counts::different_scaled(),
-    );
+    )
 }
 
-fn print_count(what: &[u8], count: u64) {
-    io::write_all(STDOUT_FILENO, what);
-    io::print_decimal(STDOUT_FILENO, count);
-    io::write_all(STDOUT_FILENO, b"\n");
+fn print_count(rt: &impl Print, what: &str, count: u64) -> io::Result<()> {
+    println!(rt; "{what}{count}")
 }
 
-fn print_sum(a: u8, b: u8) {
-    io::print_hex(STDOUT_FILENO, a as u64, 2);
-    io::write_all(STDOUT_FILENO, b" + ");
-    print_result(b, gf256::add(a, b));
+fn print_sum(rt: &impl Print, a: u8, b: u8) -> io::Result<()> {
+    print!(rt; "{a:02x} + ")?;
+    print_result(rt, b, gf256::add(a, b))
 }
 
-fn print_product(a: u8, b: u8) {
-    io::print_hex(STDOUT_FILENO, a as u64, 2);
-    io::write_all(STDOUT_FILENO, b" * ");
-    print_result(b, gf256::mul(a, b));
+fn print_product(rt: &impl Print, a: u8, b: u8) -> io::Result<()> {
+    print!(rt; "{a:02x} * ")?;
+    print_result(rt, b, gf256::mul(a, b))
 }
 
-fn print_result(b: u8, res: u8) {
-    io::print_hex(STDOUT_FILENO, b as u64, 2);
-    io::write_all(STDOUT_FILENO, b" = ");
-    io::print_hex(STDOUT_FILENO, res as u64, 2);
-    io::write_all(STDOUT_FILENO, b"\n");
+fn print_result(rt: &impl Print, b: u8, made: u8) -> io::Result<()> {
+    println!(rt; "{b:02x} = {made:02x}")
 }

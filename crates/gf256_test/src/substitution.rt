@@ -1,6 +1,6 @@
 // The byte substitution of FIPS 197 section 5.1.1, made from `inverse`.
 use gf256::InverseAnswer;
-use libc::STDOUT_FILENO;
+use std::io;
 
 // The inverse of a byte, and of 0, which has none, 0.
 fn inverse_or_zero(a: u8) -> u8 {
@@ -22,15 +22,16 @@ fn substituted(a: u8) -> u8 {
 }
 
 // That of every byte, in 16 lines of 16.
-pub(crate) fn print_all() {
+pub(crate) fn print_all(rt: &impl Print) -> io::Result<()> {
     let mut a: u64 = 0;
     while a < 256 {
-        io::print_hex(STDOUT_FILENO, substituted(a as u8) as u64, 2);
+        let byte = substituted(a as u8);
         if a % 16 == 15 {
-            io::write_all(STDOUT_FILENO, b"\n");
+            println!(rt; "{byte:02x}")?;
         } else {
-            io::write_all(STDOUT_FILENO, b" ");
+            print!(rt; "{byte:02x} ")?;
         }
         a += 1;
     }
+    Ok(())
 }

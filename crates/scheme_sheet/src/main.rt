@@ -2,13 +2,16 @@
 // counts, a byte each, at most 12 bytes in all.
 #![tactic(auto)]
 
-use libc::{STDIN_FILENO, STDOUT_FILENO};
+use std::io;
+use std::io::Read;
 
-fn main() {
-    let mut input = [0u8; sheet::MAX_INPUT];
-    let got = io::read_full(STDIN_FILENO, &mut input);
-    let sheet = sheet::sheet(&input[..got]);
+fn main(rt: HostRuntime) -> io::Result<()> {
+    let mut input = Vec::new(rt.alloc());
+    rt.reader()
+        .take(sheet::MAX_INPUT as u64)
+        .read_to_end(&mut input)?;
+    let sheet = sheet::sheet(&input);
     let bytes = sheet.bytes;
     let length = sheet.length;
-    io::write_all(STDOUT_FILENO, &bytes[..length]);
+    rt.write_all(&bytes[..length])
 }

@@ -1,38 +1,39 @@
 // Bases.
 use crate::printing;
+use std::io;
 
 // Parties 2 and 3 of document 01's plan A: x + 3 and x + 2, since 2 + 3 is 1.
-pub(crate) fn of_scheme_a() {
-    show(3, 1, 1, &[3, 2], &[2, 3]);
+pub(crate) fn of_scheme_a(rt: &impl Print) -> io::Result<()> {
+    show(rt, 3, 1, 1, &[3, 2], &[2, 3])
 }
 
 // Each refusal of the parties.
-pub(crate) fn refused() {
-    show(3, 1, 1, &[3, 2], &[2]);
-    show(3, 1, 1, &[3, 2], &[3, 2]);
-    show(3, 1, 1, &[3, 2], &[2, 4]);
+pub(crate) fn refused(rt: &impl Print) -> io::Result<()> {
+    show(rt, 3, 1, 1, &[3, 2], &[2])?;
+    show(rt, 3, 1, 1, &[3, 2], &[3, 2])?;
+    show(rt, 3, 1, 1, &[3, 2], &[2, 4])
 }
 
 // Two neighbours at once: 4 and 6, 6 and 7.
-pub(crate) fn refused_twice() {
-    show(10, 4, 1, &[10, 9, 8, 6], &[2]);
-    show(3, 1, 1, &[3, 2], &[0]);
+pub(crate) fn refused_twice(rt: &impl Print) -> io::Result<()> {
+    show(rt, 10, 4, 1, &[10, 9, 8, 6], &[2])?;
+    show(rt, 3, 1, 1, &[3, 2], &[0])
 }
 
 // Prints the size of a basis, whether its table is all zero, and the first two weights of the first two parties.
-fn show(n: u8, r: u8, z: u8, counts: &[u8], parties: &[u8]) {
+fn show(rt: &impl Print, n: u8, r: u8, z: u8, counts: &[u8], parties: &[u8]) -> io::Result<()> {
     let size = sharing::basis_size(n, r, z, counts, parties);
-    printing::answer(b"basis of ", size);
-    show_table(sharing::basis(n, r, z, counts, parties));
+    printing::answer(rt, "basis of ", size)?;
+    show_table(rt, sharing::basis(n, r, z, counts, parties))
 }
 
-fn show_table(table: [[u8; 16]; 16]) {
+fn show_table(rt: &impl Print, table: [[u8; 16]; 16]) -> io::Result<()> {
     if all_zero(table) {
-        printing::word(b", all zero");
+        printing::word(rt, ", all zero")?;
     }
     let first = table[0];
     let second = table[1];
-    printing::bytes(&[first[0], first[1], second[0], second[1]]);
+    printing::bytes(rt, &[first[0], first[1], second[0], second[1]])
 }
 
 fn all_zero(table: [[u8; 16]; 16]) -> bool {

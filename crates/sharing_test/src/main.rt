@@ -14,31 +14,33 @@ mod ranges;
 mod splits;
 mod stored;
 
-fn main() {
-    splits::two_blocks();
-    splits::small_schemes();
-    splits::orders();
-    splits::refused();
-    splits::refused_twice();
-    prefixes::handed_out();
-    prefixes::refused();
-    prefixes::refused_twice();
-    bases::of_scheme_a();
-    bases::refused();
-    bases::refused_twice();
-    openings::of_scheme_a();
-    openings::of_groups();
-    openings::refused();
-    openings::refused_twice();
-    ranges::of_groups();
-    ranges::refused();
-    padded::splits();
-    padded::prefixes();
-    padded::openings();
-    stored::earlier();
-    stored::padded();
-    asked::of_scheme_a();
-    asked::of_other_numbers();
-    asked::refused_twice();
-    asked::by_default();
+use std::io;
+
+fn main(rt: HostRuntime) -> io::Result<()> {
+    splits::two_blocks(&rt)?;
+    splits::small_schemes(&rt)?;
+    splits::orders(&rt)?;
+    splits::refused(&rt)?;
+    splits::refused_twice(&rt)?;
+    prefixes::handed_out(&rt)?;
+    prefixes::refused(&rt)?;
+    prefixes::refused_twice(&rt)?;
+    bases::of_scheme_a(&rt)?;
+    bases::refused(&rt)?;
+    bases::refused_twice(&rt)?;
+    openings::of_scheme_a(&rt)?;
+    openings::of_groups(&rt)?;
+    openings::refused(&rt)?;
+    openings::refused_twice(&rt)?;
+    ranges::of_groups(&rt)?;
+    ranges::refused(&rt)?;
+    padded::splits(&rt)?;
+    padded::prefixes(&rt)?;
+    padded::openings(&rt)?;
+    stored::earlier(&rt)?;
+    stored::padded(&rt)?;
+    asked::of_scheme_a(&rt)?;
+    asked::of_other_numbers(&rt)?;
+    asked::refused_twice(&rt)?;
+    asked::by_default(&rt)
 }

@@ -3,41 +3,52 @@
 use crate::openings::print;
 use crate::padded::show_answer;
 use crate::{former, printing};
+use std::io;
 
 // Of the earlier form, where the default scheme looks at nothing but lengths: what party 1 sends to five readers, and the
 // openings from three parties, that is, from whole shares.
-pub(crate) fn earlier() {
+pub(crate) fn earlier(rt: &impl Print) -> io::Result<()> {
     let share = b"\x09\x5c\xbb\x6a\x22\x96";
-    printing::bytes(former::prefix(5, 5, share));
-    printing::bytes(sharing::prefix_default(5, 5, share));
-    open(b"\x09\x5c\xbb\x6a\x22\x96\xfd\x2e\xbb\xd8\x93\x96\xa4\x00\xbb\xb6\xfc\x96");
+    printing::bytes(rt, former::prefix(5, 5, share))?;
+    printing::bytes(rt, sharing::prefix_default(5, 5, share))?;
+    open(
+        rt,
+        b"\x09\x5c\xbb\x6a\x22\x96\xfd\x2e\xbb\xd8\x93\x96\xa4\x00\xbb\xb6\xfc\x96",
+    )
 }
 
-fn open(shares: &[u8]) {
+fn open(rt: &impl Print, shares: &[u8]) -> io::Result<()> {
     let mut message = [0u8; 5];
     let used = former::reconstruct(5, &[1, 2, 3], shares, &mut message);
-    print(used, &message);
+    print(rt, used, &message)?;
     let mut other = [0u8; 5];
     let used_otherwise = sharing::reconstruct_default(5, &[1, 2, 3], shares, &mut other);
-    print(used_otherwise, &other);
+    print(rt, used_otherwise, &other)
 }
 
 // Padded: what five parties send, 3 bytes each, and in the default scheme no whole number of blocks. Three whole shares are
 // one block there, in which the message's end comes out as an end too, after three bytes.
-pub(crate) fn padded() {
+pub(crate) fn padded(rt: &impl Print) -> io::Result<()> {
     let five = b"\x09\xdc\xbb\xfd\x18\xbb\xa4\xb6\xbb\x6b\x12\xbb\x46\xbc\xbb";
     let mut message = [7u8; 12];
-    show_answer(former::reconstruct_padded(&[1, 2, 3, 4, 5], five, &mut message));
-    printing::bytes(&message);
-    open_by_default(&[1, 2, 3, 4, 5], five);
+    show_answer(
+        rt,
+        former::reconstruct_padded(&[1, 2, 3, 4, 5], five, &mut message),
+    )?;
+    printing::bytes(rt, &message)?;
+    open_by_default(rt, &[1, 2, 3, 4, 5], five)?;
     open_by_default(
+        rt,
         &[1, 2, 3],
         b"\x09\xdc\xbb\x6a\x22\x96\xfd\x18\xbb\xd8\x93\x96\xa4\xb6\xbb\xb6\xfc\x96",
-    );
+    )
 }
 
-fn open_by_default(parties: &[u8], prefixes: &[u8]) {
+fn open_by_default(rt: &impl Print, parties: &[u8], prefixes: &[u8]) -> io::Result<()> {
     let mut other = [7u8; 6];
-    show_answer(sharing::reconstruct_padded_default(parties, prefixes, &mut other));
-    printing::bytes(&other);
+    show_answer(
+        rt,
+        sharing::reconstruct_padded_default(parties, prefixes, &mut other),
+    )?;
+    printing::bytes(rt, &other)
 }
