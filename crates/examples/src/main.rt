@@ -3,7 +3,7 @@
 // documents.
 #![tactic(auto)]
 
-mod lengths;
+mod long_messages;
 mod openings;
 mod printing;
 mod schemes;
@@ -26,8 +26,8 @@ fn main(rt: HostRuntime) -> io::Result<()> {
     schemes::limits(&rt)?;
     schemes::two_parties(&rt)?;
     schemes::tried(&rt)?;
-    lengths::longest(&rt)?;
-    lengths::too_long(&rt)
+    long_messages::longest(&rt)?;
+    long_messages::too_long(&rt)
 }
 
 fn products(rt: &impl Print) -> io::Result<()> {
