@@ -14,7 +14,7 @@ pub(crate) fn head_bytes(i: usize) -> usize
 }
 
 // What the pair of an entry says.
-#[derive(Drop)]
+#[derive(Clone, Copy)]
 pub(crate) struct Pair {
     pub offset: usize,
     pub length: usize,

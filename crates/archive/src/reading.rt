@@ -10,7 +10,7 @@ use crate::pairs::{head_bytes, pair_at};
 use sharing::Answer;
 
 // The answer of a lookup: where in the file the entry stands, or the number of the first refusal that applies.
-#[derive(Drop)]
+#[derive(Clone, Copy)]
 pub enum EntryAnswer {
     At { offset: usize, length: usize },
     Refused(u8),

@@ -14,7 +14,7 @@ use sharing::Answer;
 
 // The answer of a lookup: where in the file the entry starts, and its length.
 #[repr(C)]
-#[derive(Drop)]
+#[derive(Clone, Copy)]
 pub struct ArchiveEntryAnswer {
     pub refusal: u64,
     pub offset: u64,

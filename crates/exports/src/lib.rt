@@ -26,7 +26,7 @@ mod rebuild;
 mod tried;
 
 #[repr(C)]
-#[derive(Drop)]
+#[derive(Clone, Copy)]
 pub struct SharingScheme {
     pub refusal: u64,
     pub block: u64,
@@ -34,7 +34,7 @@ pub struct SharingScheme {
 }
 
 #[repr(C)]
-#[derive(Drop)]
+#[derive(Clone, Copy)]
 pub struct SharingAnswer {
     pub refusal: u64,
     pub value: u64,
@@ -42,7 +42,7 @@ pub struct SharingAnswer {
 
 // Row: the place of the party in the list; column: the degree. All zero on a refusal.
 #[repr(C)]
-#[derive(Drop)]
+#[derive(Clone, Copy)]
 pub struct SharingBasis {
     pub refusal: u64,
     pub weights: [u8; WEIGHTS],
@@ -52,7 +52,7 @@ const WEIGHTS: usize = SIDE * SIDE;
 
 // 1 and the inverse, or 0 and 0 where there is none.
 #[repr(C)]
-#[derive(Drop)]
+#[derive(Clone, Copy)]
 pub struct Gf256InverseAnswer {
     pub exists: u64,
     pub inverse: u64,

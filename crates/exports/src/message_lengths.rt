@@ -8,7 +8,7 @@ use sharing::LengthsAnswer;
 
 // The blocks, and the bytes of the keys, of a share, of all shares, and of what the opener writes. All 0 on a refusal.
 #[repr(C)]
-#[derive(Drop)]
+#[derive(Clone, Copy)]
 pub struct SharingLengths {
     pub refusal: u64,
     pub blocks: u64,

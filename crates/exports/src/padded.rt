@@ -10,7 +10,7 @@ use sharing::PaddedAnswer;
 
 // The answer of the opener of padded messages: the prefix bytes used and the message's length.
 #[repr(C)]
-#[derive(Drop)]
+#[derive(Clone, Copy)]
 pub struct SharingPaddedAnswer {
     pub refusal: u64,
     pub used: u64,

@@ -8,7 +8,7 @@ use sharing::RebuildAnswer;
 
 // In how many bytes the held copy differs; the party named stands beside refusal 18.
 #[repr(C)]
-#[derive(Drop)]
+#[derive(Clone, Copy)]
 pub struct SharingRebuildAnswer {
     pub refusal: u64,
     pub differing: u64,

@@ -8,7 +8,7 @@ use scheme::TriedAnswer;
 
 // The answer of the check, and how many multiples were tried, which stands beside a refusal too.
 #[repr(C)]
-#[derive(Drop)]
+#[derive(Clone, Copy)]
 pub struct SharingTriedScheme {
     pub refusal: u64,
     pub block: u64,

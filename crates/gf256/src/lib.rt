@@ -9,7 +9,7 @@ pub mod lanes;
 mod tables;
 
 // What is answered where an inverse is asked for: the inverse, or that there is none.
-#[derive(Drop)]
+#[derive(Clone, Copy)]
 pub enum InverseAnswer {
     Inverse(u8),
     NoInverse,

@@ -18,7 +18,7 @@ pub use opening::{opening_weights, value_weights};
 
 // Document 01's running row value, of one row in 64 consecutive blocks: its values at a point, over
 // the coefficients taken so far.
-#[derive(Drop)]
+#[derive(Clone, Copy)]
 pub struct RowValue {
     pub point: u8,
     pub values: [u8; LANES],

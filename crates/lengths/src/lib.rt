@@ -14,7 +14,7 @@ use scheme::{Scheme, SchemeAnswer};
 
 // What belongs to a message: its blocks N, and the bytes of its keys, of one share, of all shares, which the splitter writes,
 // and of what the opener writes.
-#[derive(Drop)]
+#[derive(Clone, Copy)]
 pub struct MessageLengths {
     pub blocks: usize,
     pub keys: usize,
@@ -24,7 +24,7 @@ pub struct MessageLengths {
 }
 
 // The answer: these lengths, or the number of the first refusal that applies.
-#[derive(Drop)]
+#[derive(Clone, Copy)]
 pub enum LengthsAnswer {
     Lengths(MessageLengths),
     Refused(u8),

@@ -9,21 +9,21 @@ use scheme::limits::MAX_MESSAGE;
 use scheme::padding::END_MARKER;
 
 // How the end is known.
-#[derive(Drop)]
+#[derive(Clone, Copy)]
 pub(crate) enum Ending {
     Told,
     Sought,
 }
 
 // The message's length, or that the blocks do not end as those of a padded message do.
-#[derive(Drop)]
+#[derive(Clone, Copy)]
 pub(crate) enum End {
     At(usize),
     Missing,
 }
 
 // The last byte that is not 0, and one more than its place; both are 0 where there is none.
-#[derive(Drop)]
+#[derive(Clone, Copy)]
 struct Last {
     byte: usize,
     after: usize,

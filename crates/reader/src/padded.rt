@@ -8,7 +8,7 @@ use crate::opening::open;
 use scheme::{SchemeAnswer, limits, padding};
 
 // The answer: the prefix bytes used and the message's length, or the number of the first refusal that applies.
-#[derive(Drop)]
+#[derive(Clone, Copy)]
 pub enum PaddedAnswer {
     Opened { used: usize, length: usize },
     Refused(u8),

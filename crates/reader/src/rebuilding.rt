@@ -12,7 +12,7 @@ use scheme::{Scheme, SchemeAnswer, limits, padding};
 
 // The answer: in how many bytes the held copy differs; or that the shares do not agree, refusal 18, with the party without
 // which they would, 0 where there is none to name; or the number of the first refusal before it that applies.
-#[derive(Drop)]
+#[derive(Clone, Copy)]
 pub enum RebuildAnswer {
     Rebuilt(usize),
     Disagreeing(u8),

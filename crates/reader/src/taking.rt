@@ -12,7 +12,7 @@ use lists::wide;
 use scheme::Scheme;
 
 // Which rows are taken.
-#[derive(Drop)]
+#[derive(Clone, Copy)]
 pub(crate) enum Take {
     All,
     Needed,

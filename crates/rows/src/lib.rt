@@ -117,7 +117,7 @@ fn origin(block: usize, z: u8, counts: &[u8], i: usize, row: usize, degree: usiz
 }
 
 // Where a coefficient comes from: a place of the block's message, or the coefficient of an earlier row.
-#[derive(Drop)]
+#[derive(Clone, Copy)]
 enum Source {
     Message(usize),
     Copy(usize, usize),

@@ -7,7 +7,7 @@ use crate::limits;
 use lists::wide;
 
 // What the search comes to: the block length, or that it is above the limit; and how many multiples were tried.
-#[derive(Drop)]
+#[derive(Clone, Copy)]
 pub(crate) enum Search {
     Found(usize, usize),
     PastLimit(usize),

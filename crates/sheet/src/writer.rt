@@ -7,7 +7,7 @@ ghost use Rattle.sheet.specs.Writing.{Contains, Adds};
 const MAX_TEXT: usize = 256;
 
 // The first `length` bytes are the text, and the others 0.
-#[derive(Drop)]
+#[derive(Clone, Copy)]
 pub struct Text {
     pub bytes: [u8; MAX_TEXT],
     pub length: usize,
