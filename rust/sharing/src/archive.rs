@@ -3,7 +3,6 @@
 use crate::arguments::{number, paths, usage, Arguments};
 use crate::failure::{Done, Failure};
 use crate::files::{read, Input};
-use crate::mix_ups::note_different_parties;
 use crate::report::{counted, note, say};
 use crate::standard::check_once;
 use crate::target::Target;
@@ -71,7 +70,6 @@ fn write(words: &[OsString]) -> Done {
     };
     let target = Target::new(out.as_ref())?;
     check_once(shares.iter().map(Path::new))?;
-    note_different_parties(shares.iter().map(Path::new));
     let Entries { contents, lengths } = Entries::read(shares)?;
     let count = counted(lengths.len(), "entry");
     let mut file = vec![0; archive::file_length(lengths.len(), contents.len())];

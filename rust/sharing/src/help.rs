@@ -340,8 +340,7 @@ Before anything is read out of an archive, the whole of it is checked: its entri
 end of the file. What is in them is not looked at: any files may be put in, and come out as they were.
 
 An archive is for the shares that one party keeps. Who reads it has all of them, so shares of one message that
-belong to different parties must not stand in the same one. Where files are named share-K, or share-K and more after
-a dot, for different K, a note on standard error says so; the archive is written all the same.
+belong to different parties must not stand in the same one.
 "
     )
 }

@@ -68,21 +68,6 @@ pub fn note_name(party: u8, path: &Path) {
     }
 }
 
-/// Says so where files that are to stand in one archive are named as shares of different parties. They may be named wrongly,
-/// or one office may be another party of another message, so that is all.
-pub fn note_different_parties<'a>(files: impl Iterator<Item = &'a Path>) {
-    let mut named = files.filter_map(|path| Some((path, party_in_name(path)?)));
-    let Some((first, party)) = named.next() else {
-        return;
-    };
-    if let Some((other, _)) = named.find(|(_, other)| *other != party) {
-        note(&format!(
-            "{first:?} and {other:?} are named as shares of different parties: in one archive they are together for \
-             whoever has it"
-        ));
-    }
-}
-
 /// The K of a file that is named share-K, as split names it, or share-K and a dot, as an older copy may be.
 fn party_in_name(path: &Path) -> Option<u64> {
     let name = path.file_name()?.to_str()?;

@@ -51,34 +51,6 @@ fn round_trip() {
     }
 }
 
-/// Shares of different parties, by their names, in one archive: it is written, and a note says what that means.
-#[test]
-fn shares_of_different_parties() {
-    let folder = Folder::new("archive-parties");
-    for name in ["a", "b"] {
-        fs::create_dir(folder.0.join(name)).expect("a folder");
-    }
-    let names = ["a/share-1", "a/share-2", "b/share-1", "b/share-1.old", "b/share-01", "b/share-3", "b/share-x"];
-    names.into_iter().for_each(|name| folder.write(name, 7));
-    let aside = |shares: &str| {
-        let output = folder.command(&format!("archive write box {shares}")).output().expect("it runs");
-        assert_eq!(output.status.code(), Some(0), "{shares}: {}", text(&output.stderr));
-        assert!(text(&output.stdout).starts_with("The archive, "), "{shares}");
-        folder.remove("box");
-        text(&output.stderr)
-    };
-    let note = |first: &str, other: &str| {
-        format!(
-            "sharing: {first:?} and {other:?} are named as shares of different parties: in one archive they are together \
-             for whoever has it\n"
-        )
-    };
-    assert_eq!(aside("a/share-1 a/share-2"), note("a/share-1", "a/share-2"));
-    assert_eq!(aside("b/share-x b/share-1 a/share-1 b/share-3 a/share-2"), note("b/share-1", "b/share-3"));
-    assert_eq!(aside("a/share-1 b/share-1 b/share-1.old b/share-01 b/share-x a/share-1"), "");
-    assert!(folder.says("archive --help").contains("for different K, a note on standard error says so"));
-}
-
 #[test]
 fn no_entries_and_one() {
     let folder = Folder::new("archive-none");

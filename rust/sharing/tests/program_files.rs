@@ -32,7 +32,7 @@ struct Trial {
 impl Trial {
     fn new(test: &str) -> Trial {
         let folder = shares_folder::folder_with_shares(&format!("durable-{test}"));
-        folder.says("archive write archive shares/share-1 shares/about");
+        folder.says("archive write archive shares/share-1 shares/share-2");
         fs::create_dir(folder.0.join("out")).expect("a new folder");
         Trial { folder, stop: Stop::new(&format!("durable-{test}")) }
     }

@@ -168,10 +168,10 @@ fn shares() {
 fn archives() {
     let folder = folder_with_shares("standard-archive");
     let share = folder.bytes("shares/share-2");
-    folder.says("archive write box shares/share-2 message");
-    let (archive, said) = writes(&folder, "archive write - - message", &share);
+    folder.says("archive write box shares/share-2 shares/share-1");
+    let (archive, said) = writes(&folder, "archive write - - shares/share-1", &share);
     assert_eq!(archive, folder.bytes("box"));
-    assert!(said.starts_with("The archive, 2 entries in 65 bytes, is on standard output.\nEntries "), "{said}");
+    assert!(said.starts_with("The archive, 2 entries in 70 bytes, is on standard output.\nEntries "), "{said}");
     assert_eq!(says(&folder, "archive list -", &archive), folder.says("archive list box"));
     let (entry, said) = writes(&folder, "archive entry - 0 -", &archive);
     assert_eq!((entry, &said[..]), (share, "Entry 0, 30 bytes, is on standard output.\n"));
