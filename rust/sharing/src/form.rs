@@ -15,4 +15,16 @@ impl Form {
     pub fn of(arguments: &Arguments) -> Result<Form, Failure> {
         Ok(arguments.number_if_given("--length")?.map_or(Form::Padded, Form::Told))
     }
+
+    /// What is not known of a message that was opened.
+    pub fn caution(self) -> &'static str {
+        match self {
+            Form::Padded => {
+                "Only its end could be checked: a wrong scheme, party, prefix, form or number of readers can go unnoticed."
+            }
+            Form::Told(_) => {
+                "Nothing can tell whether the scheme, the length, the parties and the prefixes were the right ones."
+            }
+        }
+    }
 }

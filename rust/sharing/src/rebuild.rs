@@ -247,6 +247,6 @@ impl Shares {
 
     /// Whose message it is, as far as that is told, and the scheme.
     fn origin(&self) -> String {
-        format!("{}The scheme is {}.\n", self.told.origin("the message"), self.told.scheme.used_by_readers())
+        format!("{}The scheme is {}.\n", self.told.origin("The message"), self.told.scheme.used_by_readers())
     }
 }

@@ -198,15 +198,14 @@ impl Opening {
             None => {
                 let (bytes, there) = (counted(opened.bytes.len(), "byte"), target.there());
                 let told = format!("The message, {bytes}, is {there}; {used} bytes were fetched from {d} parties.\n");
-                let caution = if self.told.checked { CHECKED.to_string() } else { self.told.caution() };
-                (told + &self.told.origin("it"), caution)
+                (told + &self.told.origin("It"), if self.told.checked { CHECKED } else { self.told.form.caution() })
             }
             Some(range) => self.report_on_range(range, opened, target),
         };
         format!("{told}The scheme is {scheme}.\n{caution}\n")
     }
 
-    fn report_on_range(&self, range: Range, opened: &Opened, target: &Target) -> (String, String) {
+    fn report_on_range(&self, range: Range, opened: &Opened, target: &Target) -> (String, &'static str) {
         let (d, used, sent, rows) = (self.parties.len(), opened.used, self.sent(), self.rows_used(range));
         // What was split ends in the last block, and its check, if it has one, before that.
         let end = self.told.end(self.blocks().saturating_sub(1) * self.block.bytes);
@@ -218,11 +217,11 @@ impl Opening {
             told += &format!("From byte {end} on the message may be over, and {follows} follow: ");
             told += "not all rows were used.\n";
         }
-        told += &self.told.origin("the message");
+        told += &self.told.origin("The message");
         if self.told.checked {
             told += "The check inside the message was not looked at: that takes the whole of it.\n";
         }
-        (told, if opened.end_known { self.told.caution() } else { self.told.not_checked() })
+        (told, if opened.end_known { self.told.form.caution() } else { NOT_CHECKED })
     }
 
     /// How many rows are used for a range that was opened, and which.
@@ -237,6 +236,8 @@ impl Opening {
     }
 }
 
-/// No signature: who knows all of the message knows its check too.
-const CHECKED: &str =
-    "A check of 32 bytes inside it fits: no accident has changed it. Parties that knew all of it could have.";
+const CHECKED: &str = "It is the message that was split: a check of 32 bytes inside it fits.";
+
+const NOT_CHECKED: &str =
+    "Nothing of it could be checked: a wrong scheme, party, prefix, form or number of readers, or a row \
+                           that has not come, can go unnoticed.";

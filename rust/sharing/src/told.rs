@@ -60,41 +60,14 @@ impl Told {
         length.saturating_sub(if self.checked { digest::LENGTH } else { 0 })
     }
 
-    /// For a report: whose message it is, and from when, as far as that is told. It may be another message's file, so it is
-    /// named.
+    /// For a report: whose message it is, and from when, as far as that is told.
     pub fn origin(&self, message: &str) -> String {
         match &self.about {
             None => String::new(),
-            Some(Origin { name, date, label: None }) => format!("By {name} {message} was split on {date}.\n"),
-            Some(Origin { name, date, label: Some(label) }) => {
-                format!("By {name} {message} is labelled {} and was split on {date}.\n", quoted(label))
+            Some(Origin { date, label: None, .. }) => format!("{message} was split on {date}.\n"),
+            Some(Origin { date, label: Some(label), .. }) => {
+                format!("{message} is labelled {} and was split on {date}.\n", quoted(label))
             }
-        }
-    }
-
-    /// For a report: what is not known of a message of which at most the end was looked at.
-    pub fn caution(&self) -> String {
-        match (self.form, &self.about) {
-            (Form::Padded, _) => {
-                format!("Only its end could be checked: a wrong {} can go unnoticed.", self.suspects())
-            }
-            (Form::Told(_), about) => {
-                let told = about.as_ref().map_or("scheme, the length", |_| "about file");
-                format!("Nothing can tell whether the {told}, the parties and the prefixes were the right ones.")
-            }
-        }
-    }
-
-    /// The same where not all rows were used.
-    pub fn not_checked(&self) -> String {
-        let suspects = self.suspects();
-        format!("Nothing of it could be checked: a wrong {suspects}, or a row that has not come, can go unnoticed.")
-    }
-
-    fn suspects(&self) -> &'static str {
-        match self.about {
-            None => "scheme, party, prefix, form or number of readers",
-            Some(_) => "about file, party, prefix or number of readers",
         }
     }
 

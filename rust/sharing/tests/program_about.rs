@@ -36,9 +36,8 @@ fn label_in(about: &[u8]) -> Option<String> {
 
 const SCHEME: &str = "The scheme is 5,2,2,5,4,3, as \"shares/about\" says.\n";
 const END_CHECKED: &str =
-    "Only its end could be checked: a wrong about file, party, prefix or number of readers can go unnoticed.\n";
-const FITS: &str =
-    "A check of 32 bytes inside it fits: no accident has changed it. Parties that knew all of it could have.\n";
+    "Only its end could be checked: a wrong scheme, party, prefix, form or number of readers can go unnoticed.\n";
+const FITS: &str = "It is the message that was split: a check of 32 bytes inside it fits.\n";
 
 /// A folder with the letter, split with these options and so many keys.
 fn folder_with_letter(test: &str, options: &[&str], keys: usize) -> Folder {
@@ -110,7 +109,7 @@ fn reads(folder: &Folder, d: usize) -> String {
     assert_eq!(folder.bytes("opened"), folder.bytes("message"), "{opened}");
     let four = of(&[1, 3, 4, 5]);
     let said = folder.says(&format!("rebuild --about shares/about --party 2 rebuilt{four}"));
-    assert!(said.contains("\nThe 4 shares agree.\nBy ") && said.ends_with(", as \"shares/about\" says.\n"));
+    assert!(said.contains("\nThe 4 shares agree.\nThe message ") && said.ends_with(", as \"shares/about\" says.\n"));
     assert_eq!(folder.bytes("rebuilt"), folder.bytes("shares/share-2"));
     let said = folder.says(&format!("check --about=shares/about{four}"));
     assert!(said.ends_with(", as \"shares/about\" says.\n") && !said.contains("former default"), "{said}");
@@ -121,9 +120,10 @@ fn reads(folder: &Folder, d: usize) -> String {
 fn readers() {
     let told = "The message, 33 bytes, is in \"opened\"; ";
     let fetched = |bytes: usize| format!("{told}{bytes} bytes were fetched from 4 parties.\n");
-    let labelled = "By \"shares/about\" it is labelled \"Lindqvist, will\" and was split on 2026-11-17.\n";
-    let split_on = "By \"shares/about\" it was split on 2026-11-17.\n";
-    let nothing = "Nothing can tell whether the about file, the parties and the prefixes were the right ones.\n";
+    let labelled = "It is labelled \"Lindqvist, will\" and was split on 2026-11-17.\n";
+    let split_on = "It was split on 2026-11-17.\n";
+    let nothing =
+        "Nothing can tell whether the scheme, the length, the parties and the prefixes were the right ones.\n";
     let label = "--label=Lindqvist, will";
     for (number, (options, keys, report)) in [
         (&[][..], 72, format!("{}{split_on}{SCHEME}{END_CHECKED}", fetched(72))),
@@ -154,7 +154,7 @@ fn other_ways_to_give_it() {
     for other in [windows.clone(), format!("\u{feff}{about}"), format!("\u{feff}{windows}")] {
         folder.put("windows", other.as_bytes());
         let said = folder.says(&format!("reconstruct --about windows opened{}", of(&[1, 2, 3])));
-        assert!(said.contains("\nBy \"windows\" it is labelled \"a label\" and was split on 2026-11-17.\n"), "{said}");
+        assert!(said.contains("\nIt is labelled \"a label\" and was split on 2026-11-17.\n"), "{said}");
         folder.remove("opened");
     }
     let line = format!("reconstruct --about - -{}", of(&[1, 2, 3]));
@@ -297,7 +297,7 @@ fn dates_that_are_wrong() {
     for date in ["2024-02-29", "2000-02-29", "2026-12-31", "1970-01-01", "9999-12-31"] {
         folder.put("other", PADDED.replace("2026-11-17", date).as_bytes());
         let said = folder.says(&format!("reconstruct --about other out{}", of(&[1, 2, 3])));
-        assert!(said.contains(&format!("\nBy \"other\" it was split on {date}.\n")), "{said}");
+        assert!(said.contains(&format!("\nIt was split on {date}.\n")), "{said}");
         folder.remove("out");
     }
 }
@@ -416,7 +416,7 @@ fn the_check() {
 #[test]
 fn ranges_before_the_check() {
     let not_looked_at = "The check inside the message was not looked at: that takes the whole of it.\n";
-    let origin = "By \"shares/about\" the message was split on 2026-11-17.\n";
+    let origin = "The message was split on 2026-11-17.\n";
     for (form, past) in [
         (&["--checked"][..], "the message has 33 bytes\nthe scheme is 5,2,2,5,4,3, as \"shares/about\" says: shares"),
         (&["--checked", "--unpadded"], "the message has 33 bytes, as \"shares/about\" says\n"),
@@ -439,11 +439,7 @@ fn ranges_before_the_check() {
         let said = folder.says(&format!("reconstruct --about shares/about --range {range} out{}", of(&[1, 2, 3])));
         let end =
             "From byte 28 on the message may be over, and its check and padding follow: not all rows were used.\n";
-        assert_eq!(
-            said.contains(&format!(".\n{end}By \"shares/about\" the message is labelled \"x\" and ")),
-            over,
-            "{said}"
-        );
+        assert_eq!(said.contains(&format!(".\n{end}The message is labelled \"x\" and ")), over, "{said}");
         assert!(said.contains(&format!("\n{not_looked_at}{SCHEME}Nothing of it could be checked: ")), "{said}");
         folder.remove("out");
     }

@@ -22,8 +22,7 @@ mod shares_folder;
 const CHECK: usize = 32;
 const LONGEST: usize = MAX_MESSAGE - CHECK;
 
-const FITS: &str =
-    "A check of 32 bytes inside it fits: no accident has changed it. Parties that knew all of it could have.\n";
+const FITS: &str = "It is the message that was split: a check of 32 bytes inside it fits.\n";
 const DOES_NOT_FIT: &str =
     "sharing: what was opened is not what was split: the check of 32 bytes at its end does not fit\n\
      a share, party, prefix, scheme, form, length or number of readers is wrong, or it was split without --checked\n\

@@ -190,9 +190,7 @@ fn whose_shares() {
     {
         let (shares, about) =
             (of(&[1, 2, 3, 4]).replace("shares/", &format!("{name}/")), format!("--about {name}/about"));
-        let told = format!(
-            "\nBy \"{name}/about\" the message {words}.\nThe scheme is 5,2,2,5,4,3, as \"{name}/about\" says.\n"
-        );
+        let told = format!("\nThe message {words}.\nThe scheme is 5,2,2,5,4,3, as \"{name}/about\" says.\n");
         for line in [format!("check {about}{shares}"), format!("rebuild {about} --party 5 new-{name}{shares}")] {
             let said = folder.says(&line);
             assert!(said.ends_with(&told), "{said}");
