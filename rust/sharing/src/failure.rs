@@ -17,8 +17,6 @@ pub enum Failure {
     RefusedFor(u64, String, String),
     /// A file could not be read or written, or what was read is not what it has to be.
     File(String),
-    /// Shares that were to be checked are too few for it, as the report has said.
-    NotChecked,
     /// The signal of this number came while files were being written.
     Interrupted(i32),
     /// One of these, and what is true all the same.
@@ -42,7 +40,6 @@ impl fmt::Display for Failure {
             Failure::Refused(number, detail) => write!(f, "refused ({number}): {}\n{detail}", reason(*number)),
             Failure::RefusedFor(number, reason, detail) => write!(f, "refused ({number}): {reason}\n{detail}"),
             Failure::File(text) => write!(f, "{text}"),
-            Failure::NotChecked => write!(f, "nothing could be checked"),
             Failure::Interrupted(_) => write!(f, "interrupted, and nothing is kept of what was written"),
             Failure::Besides(failure, fact) => write!(f, "{failure}\n{fact}"),
         }
@@ -60,7 +57,6 @@ impl Failure {
     fn end(&self) -> ExitCode {
         match self {
             Failure::Usage(_) => return ExitCode::from(2),
-            Failure::NotChecked => return ExitCode::from(3),
             Failure::Interrupted(number) => interrupt::end(*number),
             Failure::Besides(failure, _) => return failure.end(),
             Failure::Refused(..) | Failure::RefusedFor(..) | Failure::File(_) => {}

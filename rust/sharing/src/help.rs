@@ -45,7 +45,7 @@ sharing splits a message into shares and opens it again from the beginnings of a
   sharing rebuild [--about FILE | --scheme S] --party P [--held FILE] OUT PARTY=FILE ..
       makes a party's share anew out of whole shares, and says how much of a held copy is wrong
   sharing check [--about FILE | --scheme S] PARTY=FILE ..
-      says whether whole shares agree, which one does not fit the others, and how many of them may be lost
+      says whether whole shares agree, which one does not fit the others, and how many more may be lost
   sharing archive write FILE [SHARE ..]
   sharing archive list FILE
   sharing archive entry FILE NUMBER OUT
@@ -95,8 +95,7 @@ standard error. As with a file nothing is written before all of it is known to b
 that stays empty sees only by the exit status that it failed. A file of that name is given as ./-, and a folder too.
 
 The exit status is 0 when all went well, 1 when the input was refused or a file could not be read or
-written, 2 when the command line cannot be understood, and 3 when check was given so few shares that nothing
-could be checked. A signal ends the program as it ends others.
+written, and 2 when the command line cannot be understood. A signal ends the program as it ends others.
 
 Input is refused for the first of these reasons that applies, with its number; 17 is looked at before 9, and where
 --length is given, 15 is:

@@ -27,11 +27,10 @@ pub fn run(arguments: &Arguments) -> Done {
     let held = arguments.option("--held").map(|path| read(PathBuf::from(path))).transpose()?;
     let (differing, share) = shares.rebuild(party, held.as_ref())?;
     let held = shares.told_of(held.as_ref(), differing);
-    target.put(&share, &[shares.is_in(&target, party), held, shares.agree(), shares.origin()].concat())
+    target.put(&share, &[shares.is_in(&target, party), held, shares.agree(), shares.scheme_used()].concat())
 }
 
-/// Rebuilds the share of one of the parties, and drops it. Shares of which nothing could be checked are no success: a script
-/// that looks at the exit status alone would take them for shares that agree.
+/// Rebuilds the share of one of the parties, and drops it.
 pub fn check(arguments: &Arguments) -> Done {
     let shares = Shares::new(arguments, &arguments.words, None)?;
     let Some((&party, own)) = shares.parties.first().zip(shares.files.first()) else {
@@ -39,12 +38,7 @@ pub fn check(arguments: &Arguments) -> Done {
     };
     let (differing, _) = shares.rebuild(party, Some(own))?;
     assert_eq!(differing, 0, "of shares that agree each is rebuilt as it is");
-    say(&[shares.agree(), shares.may_be_lost(), shares.origin()].concat())?;
-    if shares.are_checked() {
-        Ok(())
-    } else {
-        Err(Failure::NotChecked)
-    }
+    say(&[shares.agree(), shares.may_be_lost(), shares.scheme_used()].concat())
 }
 
 const EMPTY: &str = "the files are empty: they are shares of an empty message of the earlier form, or no shares at all";
@@ -141,14 +135,13 @@ impl Shares {
     }
 
     /// What is said of the party that is named. Its share need not be the wrong one: others may have been made to fit
-    /// together, and who rebuilds it from these completes what they did.
+    /// together.
     fn does_not_fit(&self, party: u8) -> String {
         let file = self.parties.iter().zip(&self.files).find(|(other, _)| **other == party);
         let path = file.map_or(String::new(), |(_, file)| format!(", {},", named(&file.path)));
         format!(
             "the share of party {party}{path} does not fit the others, which agree without it\n\
-             if the others can be trusted, sharing rebuild --party {party}, without {party}=FILE, makes it anew out of \
-             them; keep the old one"
+             sharing rebuild --party {party} rebuilds it from the others"
         )
     }
 
@@ -158,27 +151,20 @@ impl Shares {
         let why = if given < needed {
             format!("{given} shares are too few to tell which one does not fit: that takes {needed}{only}")
         } else {
-            "more than one is wrong, or they are of different messages, or a party's number or the scheme is wrong: \
-             whichever is left out, the others do not agree"
+            "more than one is wrong, or they are of different messages: whichever is left out, the others do not agree"
                 .to_string()
         };
         let doubts: String = self.doubts().into_iter().map(|doubt| format!("\n{doubt}")).collect();
         format!("{why}{doubts}\neach file has to be a whole share, and no prefix")
     }
 
-    /// Where the share is, and that nothing was rebuilt where as few shares as are needed include the party's own.
     fn is_in(&self, target: &Target, party: u8) -> String {
         let (bytes, many, there) = (counted(self.length(), "byte"), self.parties.len(), target.there());
-        let own = if !self.are_checked() && self.parties.contains(&party) {
-            format!("It is the file that was given for party {party}: {many} shares only give back their own.\n")
-        } else {
-            String::new()
-        };
-        format!("The share of party {party}, {bytes}, is {there}, rebuilt from the shares of {many} parties.\n{own}")
+        format!("The share of party {party}, {bytes}, is {there}, rebuilt from the shares of {many} parties.\n")
     }
 
     /// What is said of a held copy that differs from the share in so many bytes. Which of the two is right is known as far as
-    /// the shares are checked.
+    /// the shares are checked. Where they do not differ, nothing of it is found wrong either way.
     fn told_of(&self, held: Option<&Input>, differing: u64) -> String {
         let Some(Input { path, bytes, .. }) = held else {
             return "There was no held copy.\n".to_string();
@@ -187,10 +173,9 @@ impl Shares {
         let of_all = |many: u64| format!("{many} of the {} of the held copy {name}", counted(bytes.len(), "byte"));
         match (differing, self.are_checked()) {
             _ if bytes.is_empty() => format!("There was no held copy: {} is empty.\n", named(path)),
-            (0, true) => format!("No byte of the held copy {name} was wrong.\n"),
+            (0, _) => format!("No byte of the held copy {name} was wrong.\n"),
             (1, true) => format!("{} was wrong.\n", of_all(1)),
             (many, true) => format!("{} were wrong.\n", of_all(many)),
-            (0, false) => format!("No byte of the held copy {name} differs from this share.\n"),
             (1, false) => format!("{} differs from this share; which is right could not be checked.\n", of_all(1)),
             (many, false) => format!("{} differ from this share; which is right could not be checked.\n", of_all(many)),
         }
@@ -235,18 +220,19 @@ impl Shares {
         )
     }
 
-    /// How many of these shares the parties can do without, where that is known: others may be there that were not given.
+    /// How many more shares the parties can do without.
     fn may_be_lost(&self) -> String {
-        if !self.are_checked() || !self.doubts().is_empty() {
-            return String::new();
+        let enough = self.enough();
+        match self.parties.len() - enough {
+            0 => format!("No more share may be lost: {enough} are needed to open the message.\n"),
+            spare => {
+                let more = if spare == 1 { "share" } else { "shares" };
+                format!("{spare} more {more} may be lost: any {enough} open the message and rebuild the others.\n")
+            }
         }
-        let (many, enough) = (self.parties.len(), self.enough());
-        let spare = many - enough;
-        format!("Of these {many} shares {spare} may be lost: any {enough} open the message and rebuild the others.\n")
     }
 
-    /// Whose message it is, as far as that is told, and the scheme.
-    fn origin(&self) -> String {
-        format!("{}The scheme is {}.\n", self.told.origin("The message"), self.told.scheme.used_by_readers())
+    fn scheme_used(&self) -> String {
+        format!("The scheme is {}.\n", self.told.scheme.used_by_readers())
     }
 }

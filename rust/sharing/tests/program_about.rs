@@ -109,7 +109,7 @@ fn reads(folder: &Folder, d: usize) -> String {
     assert_eq!(folder.bytes("opened"), folder.bytes("message"), "{opened}");
     let four = of(&[1, 3, 4, 5]);
     let said = folder.says(&format!("rebuild --about shares/about --party 2 rebuilt{four}"));
-    assert!(said.contains("\nThe 4 shares agree.\nThe message ") && said.ends_with(", as \"shares/about\" says.\n"));
+    assert!(said.contains("\nThe 4 shares agree.\nThe scheme is ") && said.ends_with(", as \"shares/about\" says.\n"));
     assert_eq!(folder.bytes("rebuilt"), folder.bytes("shares/share-2"));
     let said = folder.says(&format!("check --about=shares/about{four}"));
     assert!(said.ends_with(", as \"shares/about\" says.\n") && !said.contains("former default"), "{said}");

@@ -75,7 +75,7 @@ fn one_party_twice_and_copies() {
         folder.refuses(&line, 7, "[1, 1, 2]");
     }
     let words = folder.copies("keys", &[1, 2, 3]);
-    assert_eq!(notes(&folder, &format!("check{words}")), "");
+    folder.says(&format!("check{words}"));
     folder.says(&format!("rebuild --party 5 rebuilt{words}"));
     folder.says(&format!("reconstruct --length 60 opened{words}"));
 }
@@ -144,16 +144,12 @@ fn the_keys_of_the_pool_as_message() {
     folder.says(&line("drawn"));
 }
 
-/// What it says aside where it goes on, be it that three shares are too few to be checked.
+/// What it says aside where it goes on.
 fn notes(folder: &Folder, line: &str) -> String {
     let output = folder.command(line).output().expect("it runs");
+    assert_eq!(output.status.code(), Some(0), "{line}: {}", text(&output.stderr));
     folder.remove("out");
-    let aside = text(&output.stderr);
-    match (output.status.code(), aside.strip_suffix("sharing: nothing could be checked\n")) {
-        (Some(3), Some(before)) => before.to_string(),
-        (Some(0), None) => aside,
-        _ => panic!("{line}: {aside}"),
-    }
+    text(&output.stderr)
 }
 
 /// The names that split gives, and those with a dot after them, tell their party; others do not.

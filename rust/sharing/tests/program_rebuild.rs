@@ -2,7 +2,7 @@
 
 use comparison::cases::Form;
 use comparison::stored::STORED;
-use folder::{text, Folder};
+use folder::Folder;
 use gilunavoi::limits::MAX_MESSAGE;
 use shares_folder::{folder_with_shares, of, split};
 use std::fs;
@@ -19,14 +19,9 @@ const HINT: &str = "\neach file has to be a whole share, and no prefix\n\
     the scheme is the default, 5,2,2,5,4,3; shares of the former default need --scheme 5,2,1,5,4,3\n";
 
 const MANY: &str =
-    "\nmore than one is wrong, or they are of different messages, or a party's number or the scheme is wrong: \
-    whichever is left out, the others do not agree";
+    "\nmore than one is wrong, or they are of different messages: whichever is left out, the others do not agree";
 
-const THREE: &str =
-    "Nothing could be checked: 3 shares always agree, right or wrong. It takes one more to notice a wrong one.\n";
-
-/// Without its end.
-const UNLIKELY: &str = "hold the same bytes: possible for shares of one message, but unlikely";
+const UNLIKELY: &str = "possible for shares of one message, but unlikely.\n";
 
 impl Folder {
     /// A file of these bytes, of which those at these places are made others.
@@ -34,14 +29,6 @@ impl Folder {
         let mut bytes = self.bytes(from);
         places.iter().for_each(|&place| bytes[place] ^= 0x5a);
         fs::write(self.0.join(name), bytes).expect("a written file");
-    }
-
-    /// What `check` says of so few shares that nothing can be checked, with an exit status of its own.
-    fn cannot_check(&self, words: &str) -> String {
-        let output = self.command(&format!("check{words}")).output().expect("the program runs");
-        assert_eq!(output.status.code(), Some(3), "{words}");
-        assert_eq!(text(&output.stderr), "sharing: nothing could be checked\n", "{words}");
-        text(&output.stdout)
     }
 
     /// Rebuilds a share, and answers what is said after where it is.
@@ -57,26 +44,22 @@ impl Folder {
     }
 }
 
-/// What is said where the file that was given for a party comes back.
-fn given_back(party: usize) -> String {
-    format!("It is the file that was given for party {party}: 3 shares only give back their own.\n")
-}
-
 /// Every party's share, from others and from its own too, named in any order.
 #[test]
 fn byte_for_byte() {
     let folder = folder_with_shares("rebuild");
+    let three =
+        "Nothing could be checked: 3 shares always agree, right or wrong. It takes one more to notice a wrong one.\n";
     let lists: [(&[usize], &str); 5] = [
-        (&[1, 2, 3], THREE),
-        (&[5, 3, 4], THREE),
+        (&[1, 2, 3], three),
+        (&[5, 3, 4], three),
         (&[5, 1, 4, 2], "The 4 shares agree.\n"),
         (&[2, 3, 4, 5], "The 4 shares agree.\n"),
         (&[1, 2, 3, 4, 5], "The 5 shares agree.\n"),
     ];
     for (parties, agree) in lists {
         for party in 1..=5 {
-            let own = if parties.len() == 3 && parties.contains(&party) { given_back(party) } else { String::new() };
-            assert_eq!(folder.rebuilds("", party, parties), format!("{own}There was no held copy.\n{agree}{SCHEME}"));
+            assert_eq!(folder.rebuilds("", party, parties), format!("There was no held copy.\n{agree}{SCHEME}"));
         }
     }
     folder.says(&format!("rebuild --party 2 new{}", of(&[1, 3, 5])));
@@ -106,8 +89,9 @@ fn both_forms_and_other_schemes() {
     assert_eq!(said, "There was no held copy.\nThe 3 shares agree.\nThe scheme is 4,2,1,2.\n");
     // All that there are, and no more can be given.
     split(&folder, "--scheme 2,0,1,2 ", 1, 2);
-    let said = folder.cannot_check(&format!(" --scheme 2,0,1,2{}", of(&[1, 2])));
-    let expected = "Nothing could be checked: 2 shares always agree, right or wrong.\nThe scheme is 2,0,1,2.\n";
+    let said = folder.says(&format!("check --scheme 2,0,1,2{}", of(&[1, 2])));
+    let expected = "Nothing could be checked: 2 shares always agree, right or wrong.\n\
+                    No more share may be lost: 2 are needed to open the message.\nThe scheme is 2,0,1,2.\n";
     assert_eq!(said, expected);
 }
 
@@ -138,27 +122,24 @@ fn held_copies() {
     assert!(folder.fails(&line("absent"), 1).contains("cannot read \"absent\": "));
 }
 
-/// Three shares do not tell which is right, they or the held copy: here party 1's is wrong first, then the copy. And the
-/// share of one of the three is its own file.
+/// Three shares do not tell which is right, they or the held copy: here party 1's is wrong first, then the copy.
 #[test]
 fn held_copies_that_cannot_be_judged() {
     let folder = folder_with_shares("rebuild-unjudged");
     folder.damaged("bad", "shares/share-1", &[0]);
     folder.damaged("one", "shares/share-2", &[29]);
     folder.damaged("some", "shares/share-2", &[0, 7, 8]);
-    let open = "from this share; which is right could not be checked";
+    let nothing =
+        "Nothing could be checked: 3 shares always agree, right or wrong. It takes one more to notice a wrong one.\n";
+    let open = "from this share; which is right could not be checked.\n";
     for (words, held, told) in [
         (" 1=bad", "shares/share-2", format!("1 of the 30 bytes of the held copy \"shares/share-2\" differs {open}")),
         (" 1=shares/share-1", "some", format!("3 of the 30 bytes of the held copy \"some\" differ {open}")),
-        (
-            " 1=shares/share-1",
-            "shares/share-2",
-            "No byte of the held copy \"shares/share-2\" differs from this share".to_string(),
-        ),
-        (" 2=some", "one", format!("{}4 of the 30 bytes of the held copy \"one\" differ {open}", given_back(2))),
+        (" 1=shares/share-1", "shares/share-2", "No byte of the held copy \"shares/share-2\" was wrong.\n".to_string()),
+        (" 2=some", "one", format!("4 of the 30 bytes of the held copy \"one\" differ {open}")),
     ] {
         let said = folder.says(&format!("rebuild --party 2 --held {held} out{words}{}", of(&[3, 4])));
-        let end = format!("rebuilt from the shares of 3 parties.\n{told}.\n{THREE}{SCHEME}");
+        let end = format!("rebuilt from the shares of 3 parties.\n{told}{nothing}{SCHEME}");
         assert!(said.ends_with(&end), "{said}");
         folder.remove("out");
     }
@@ -169,33 +150,17 @@ fn shares_that_agree() {
     let folder = folder_with_shares("check");
     let before = folder.names();
     for (parties, told) in [
-        (&[1, 2, 3, 4, 5][..], "The 5 shares agree.\nOf these 5 shares 2 may be lost"),
-        (&[4, 1, 5, 2], "The 4 shares agree.\nOf these 4 shares 1 may be lost"),
+        (&[1, 2, 3, 4, 5][..], "The 5 shares agree.\n2 more shares may be lost: any 3 open the message and rebuild the others.\n"),
+        (&[4, 1, 5, 2], "The 4 shares agree.\n1 more share may be lost: any 3 open the message and rebuild the others.\n"),
+        (
+            &[5, 2, 3],
+            "Nothing could be checked: 3 shares always agree, right or wrong. It takes one more to notice a wrong one.\n\
+             No more share may be lost: 3 are needed to open the message.\n",
+        ),
     ] {
-        let told = format!("{told}: any 3 open the message and rebuild the others.\n{SCHEME}");
-        assert_eq!(folder.says(&format!("check{}", of(parties))), told);
+        assert_eq!(folder.says(&format!("check{}", of(parties))), format!("{told}{SCHEME}"));
     }
-    assert_eq!(folder.cannot_check(&of(&[5, 2, 3])), format!("{THREE}{SCHEME}"));
     assert_eq!(folder.names(), before, "nothing is written");
-}
-
-/// Which message the shares are of, both commands say as the about file has it.
-#[test]
-fn whose_shares() {
-    let folder = folder_with_shares("rebuild-about");
-    folder.write("keys", 60);
-    folder.says("split --label File-117 message keys labelled");
-    for (name, words) in
-        [("shares", "was split on 2026-11-17"), ("labelled", "is labelled \"File-117\" and was split on 2026-11-17")]
-    {
-        let (shares, about) =
-            (of(&[1, 2, 3, 4]).replace("shares/", &format!("{name}/")), format!("--about {name}/about"));
-        let told = format!("\nThe message {words}.\nThe scheme is 5,2,2,5,4,3, as \"{name}/about\" says.\n");
-        for line in [format!("check {about}{shares}"), format!("rebuild {about} --party 5 new-{name}{shares}")] {
-            let said = folder.says(&line);
-            assert!(said.ends_with(&told), "{said}");
-        }
-    }
 }
 
 /// Both commands say the same of shares that do not agree.
@@ -213,8 +178,7 @@ fn a_wrong_share_is_named() {
             let words = of(&[1, 2, 3, 4, 5]).replace(&format!("shares/share-{party}"), "bad");
             let detail = format!(
                 "\nthe share of party {party}, \"bad\", does not fit the others, which agree without it\n\
-                 if the others can be trusted, sharing rebuild --party {party}, without {party}=FILE, makes it anew out \
-                 of them; keep the old one\n\
+                 sharing rebuild --party {party} rebuilds it from the others\n\
                  the scheme is the default, 5,2,2,5,4,3; shares of the former default need --scheme 5,2,1,5,4,3\n"
             );
             disagree(&folder, "", &words, &detail);
@@ -240,12 +204,18 @@ fn a_right_share_is_named() {
 
 /// What both commands say after these words of files that agree, though they are hardly what they are taken for.
 fn doubted(folder: &Folder, words: &str, doubts: &str) {
-    let (agree, checked) = match words.split(' ').count() - 1 {
-        3 => (THREE.to_string(), folder.cannot_check(words)),
-        many => (format!("The {many} shares agree.\n"), folder.says(&format!("check{words}"))),
+    let nothing =
+        "Nothing could be checked: 3 shares always agree, right or wrong. It takes one more to notice a wrong one.\n";
+    let agree = match words.split(' ').count() - 1 {
+        3 => nothing.to_string(),
+        many => format!("The {many} shares agree.\n"),
     };
-    // How many may be lost is not said of such files.
-    assert_eq!(checked, format!("{agree}{doubts}{SCHEME}"));
+    let checked = folder.says(&format!("check{words}"));
+    assert!(
+        checked.starts_with(&format!("{agree}{doubts}")) && checked.ends_with(&format!(".\n{SCHEME}")),
+        "{checked}"
+    );
+    assert_eq!(checked.lines().count(), 3 + doubts.lines().count(), "{checked}");
     let rebuilt = folder.says(&format!("rebuild --party 2 out{words}"));
     assert!(rebuilt.ends_with(&format!("\nThere was no held copy.\n{agree}{doubts}{SCHEME}")), "{rebuilt}");
     folder.remove("out");
@@ -266,7 +236,7 @@ fn empty_files() {
 fn the_same_bytes() {
     let folder = folder_with_shares("rebuild-same");
     fs::copy(folder.0.join("shares/share-3"), folder.0.join("copy")).expect("a copy");
-    let doubts = |files: &str| format!("The files of the parties {files}, {UNLIKELY}.\n");
+    let doubts = |files: &str| format!("The files of the parties {files}, hold the same bytes: {UNLIKELY}");
     doubted(&folder, " 1=copy 3=shares/share-3 4=shares/share-4", &doubts("1 and 3, \"copy\" and \"shares/share-3\""));
     let five =
         doubts("1, 2, 3, 4 and 5, \"copy-copy1\", \"copy-copy2\", \"shares/share-3\", \"copy-copy4\" and \"copy\"");
@@ -275,10 +245,10 @@ fn the_same_bytes() {
     split(&folder, "--scheme 5,1,2,5,4 ", 25, 30);
     fs::copy(folder.0.join("shares/share-1"), folder.0.join("one")).expect("a copy");
     fs::copy(folder.0.join("shares/share-2"), folder.0.join("two")).expect("a copy");
-    let said = folder.cannot_check(&format!(" --scheme 5,1,2,5,4 3=two 4=one{}", of(&[1, 2])));
+    let said = folder.says(&format!("check --scheme 5,1,2,5,4 3=two 4=one{}", of(&[1, 2])));
     let [first, second] =
         [doubts("1 and 4, \"shares/share-1\" and \"one\""), doubts("2 and 3, \"shares/share-2\" and \"two\"")];
-    assert!(said.contains(&format!("one.\n{first}{second}The scheme is ")), "{said}");
+    assert!(said.contains(&format!("one.\n{first}{second}No more share may be lost")), "{said}");
 }
 
 #[test]
@@ -291,9 +261,10 @@ fn nobody_is_named() {
     disagree(&folder, "", &format!(" 1=bad-1{}", of(&[2, 3, 5])), &few);
     // One file for two parties, of which one holds a copy.
     fs::copy(folder.0.join("shares/share-1"), folder.0.join("first")).expect("a copy");
-    let same = format!("\nthe files of the parties 1 and 2, \"shares/share-1\" and \"first\", {UNLIKELY}{HINT}");
-    let few = "\n4 shares are too few to tell which one does not fit: that takes 5";
-    disagree(&folder, "", &format!("{} 2=first", of(&[1, 3, 5])), &format!("{few}{same}"));
+    let same = "the files of the parties 1 and 2, \"shares/share-1\" and \"first\", hold the same bytes: possible for \
+                shares of one message, but unlikely";
+    let few_and_same = few.replace(HINT, &format!("\n{same}{HINT}"));
+    disagree(&folder, "", &format!("{} 2=first", of(&[1, 3, 5])), &few_and_same);
     let many = format!("{MANY}{HINT}");
     disagree(&folder, "", &format!("{} 2=bad-2 4=bad-4", of(&[1, 3, 5])), &many);
     for (copy, party) in [("second", 2), ("fourth", 4)] {

@@ -129,7 +129,7 @@ fn any_file_name() {
     let name = OsStr::from_bytes(b"\xff=\xfe");
     fs::copy(folder.0.join("shares/share-3"), folder.0.join(name)).expect("a copy");
     let last = OsStr::from_bytes(b"3=\xff=\xfe");
-    for line in [format!("rebuild --party=2 -- --out{}", of(&[1, 4])), format!("check{}", of(&[1, 2, 4]))] {
+    for line in [format!("rebuild --party=2 -- --out{}", of(&[1, 4])), format!("check{}", of(&[1, 4]))] {
         let output = folder.command(&line).arg(last).output().expect("it runs");
         assert_eq!(output.status.code(), Some(0), "{line}: {}", text(&output.stderr));
     }

@@ -12,8 +12,8 @@ given:
 
   N - R             always agree, right or wrong. Nothing is checked: where a share is wrong, or a party or the
                     scheme is, a share that is rebuilt from them is wrong too, and a held copy that is right
-                    differs from it. The report says that nothing could be checked; the exit status of check is
-                    then 3, and that of rebuild 0.
+                    differs from it. The exit status is 0 all the same; the report says that nothing could be
+                    checked.
   N - R + 1         A wrong share is noticed, but not which one it is.
   N - R + 2, more   A single wrong share is noticed, and its party named: the one without whose share all others
                     agree. Where more than one is wrong, or they are shares of different messages, mostly nobody
@@ -27,7 +27,7 @@ long as N - R right ones are given too: who can replace all but N - R - 1 of tho
 by others that agree. And where all but one are shares of another message, that one is named.
 
 Empty files agree, as the shares of an empty message of the earlier form, and so do copies of one file, whatever is
-in it. The report says where files are empty and which ones hold the same bytes; that changes no exit status.
+in it. The report says where files are empty and which ones hold the same bytes; the exit status stays 0.
 
 Shares of the former default, those that were split without a scheme while that was {former}, need
 --scheme {former}. Without it N - R of them pass, and what is rebuilt is mostly wrong. More hardly ever
@@ -66,14 +66,11 @@ pub fn check() -> String {
         "\
 sharing check [--about FILE | --scheme N,R,Z,D1,D2..] PARTY=FILE PARTY=FILE ..
 
-Says whether shares agree, and how many of them may be lost. Nothing is written. It is meant to be run from time to
+Says whether shares agree, and how many more may be lost. Nothing is written. It is meant to be run from time to
 time, with the shares of all parties, so that one that went bad is replaced, by rebuild, while there are enough
 others. Each FILE is the whole share of the party of this number, no prefix, and there are N - R of them or more. The
 parties may stand in any order. The message is neither shown nor written. But who has N - R shares in one place can
 open it: do this where the message may be opened, and destroy the copies afterwards.
-
-The exit status is 0 where the shares agree, 1 where they do not, and 3 where they are too few for anything to be
-checked.
 
 {ABOUT}
 {MIX_UPS}
