@@ -30,7 +30,7 @@ fn sides(word: &OsStr) -> Option<(&OsStr, &OsStr)> {
 
 /// Do these words ask for help, before `--`? A word that is the value of an option, as a label may be, does not ask for it.
 pub fn ask_for_help(given: &[OsString], names: &[&str]) -> bool {
-    let mut given = given.iter().peekable();
+    let mut given = given.iter();
     while let Some(word) = given.next() {
         if is_help(word) {
             return true;
@@ -39,27 +39,10 @@ pub fn ask_for_help(given: &[OsString], names: &[&str]) -> bool {
             return false;
         }
         if names.iter().any(|name| word == name) && !FLAGS.iter().any(|name| word == name) {
-            given.next_if(|value| !is_like_option(value));
+            given.next();
         }
     }
     false
-}
-
-fn is_like_option(word: &OsStr) -> bool {
-    word.as_bytes().starts_with(b"--")
-}
-
-/// The value of an option that has none behind `=`: the next word. One that starts with two dashes is the next option, and
-/// the value was forgotten: taken for it, a flag such as `--checked` would be lost without a word.
-fn next_value<'a>(name: &str, given: &mut impl Iterator<Item = &'a OsString>) -> Result<Option<&'a OsStr>, Failure> {
-    match given.next() {
-        Some(word) if is_like_option(word) => usage(format!(
-            "{name} needs a value after it, and {word:?} looks like an option; a value that starts with -- stands behind \
-             =, as in {name}={}",
-            word.display()
-        )),
-        word => Ok(word.map(OsString::as_os_str)),
-    }
 }
 
 pub fn is_help(word: &OsStr) -> bool {
@@ -74,14 +57,13 @@ impl Arguments {
         while let Some(word) = given.next() {
             if word == "--" {
                 arguments.words.extend(given.by_ref().cloned());
-            } else if is_like_option(word) {
+            } else if word.as_bytes().starts_with(b"--") {
                 let (option, value) = sides(word).map_or((word.as_os_str(), None), |(name, value)| (name, Some(value)));
                 let Some(name) = names.iter().find(|name| option == **name) else {
                     return usage(format!("there is no option {option:?} here"));
                 };
                 let value = match (FLAGS.contains(name), value) {
-                    (false, None) => next_value(name, &mut given)?,
-                    (false, value) => value,
+                    (false, value) => value.or_else(|| given.next().map(OsString::as_os_str)),
                     (true, None) => Some(OsStr::new("")),
                     (true, Some(value)) => return usage(format!("{name} has no value, and {value:?} was given")),
                 };

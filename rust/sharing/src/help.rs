@@ -63,8 +63,7 @@ pub fn all() -> String {
 A scheme has N parties. R of them may be absent, and Z may put their shares together and still learn
 nothing but the message's length in blocks. The counts are the numbers of parties at which opening is
 cheap, falling, the last one N - R. S is all of it in a row: N,R,Z and the counts. Without a scheme
-it is {default}. The value of an option may also stand behind =, as in --readers=4; one that starts
-with -- has to, since it would look like the next option.
+it is {default}. The value of an option may also stand behind =, as in --readers=4.
 
 The default was another before, {former}, and nothing in a share tells its scheme. Shares that were
 split then without a scheme, those of the former default, are read with --scheme {former};

@@ -27,9 +27,8 @@ fn with_key_file(arguments: &Arguments) -> Done {
     let [message, keys, folder] = paths(&arguments.words, ["MESSAGE", "KEYS", "FOLDER"])?;
     check_folder(&folder, "FOLDER")?;
     check_once([&message, &keys].map(PathBuf::as_path))?;
-    mix_ups::check_keys(&message, &keys)?;
     check_no_pool(&keys)?;
-    let splitting = Splitting::new(arguments, message)?;
+    let splitting = Splitting::new(arguments, message, &keys)?;
     let keys = read(keys)?;
     let shares = splitting.shares(&keys)?;
     let mut output = Output::in_folder(&folder, splitting.names())?;
@@ -52,8 +51,7 @@ fn from_pool(arguments: &Arguments, pool: &OsStr) -> Done {
     check_folder(pool.as_ref(), "POOL")?;
     let [message, folder] = paths(&arguments.words, ["MESSAGE", "FOLDER"])?;
     check_folder(&folder, "FOLDER")?;
-    mix_ups::check_keys(&message, &Path::new(pool).join(KEYS))?;
-    let splitting = Splitting::new(arguments, message)?;
+    let splitting = Splitting::new(arguments, message, &Path::new(pool).join(KEYS))?;
     let mut pool = Pool::to_use(pool.as_ref())?;
     pool.make_ready()?;
     // A name that is taken, or a folder that cannot be written in, is seen before keys are used for it.
@@ -81,10 +79,11 @@ struct Splitting {
 }
 
 impl Splitting {
-    fn new(arguments: &Arguments, message: PathBuf) -> Result<Splitting, Failure> {
+    fn new(arguments: &Arguments, message: PathBuf, keys: &Path) -> Result<Splitting, Failure> {
         let (checked, label, date) = (arguments.flag("--checked"), about::label_of(arguments)?, date::today()?);
         let scheme = Scheme::of(arguments)?;
         scheme.check()?;
+        mix_ups::check_keys(&message, keys)?;
         let message = read(message)?;
         let contents = if checked { digest::with_check(&message.bytes)? } else { message.bytes.clone() };
         let unpadded = arguments.flag("--unpadded");

@@ -248,8 +248,7 @@ fn schemes() {
         folder.refuses(&format!("scheme {scheme}"), number, "the scheme is N ");
     }
     folder.write("message", 3);
-    folder.write("keys", 3);
-    folder.refuses("split --scheme 5,2,1 message keys shares", 3, "Z 1, no counts");
+    folder.refuses("split --scheme 5,2,1 message message shares", 3, "Z 1, no counts");
     for length in ["", "--length 3 "] {
         folder.refuses(&format!("prefix --scheme 5,5,1,5 {length}--readers 5 message out"), 2, "R 5");
         folder.refuses(&format!("reconstruct --scheme 0,5,1,5 {length}out 1=message"), 1, "N 0");
@@ -561,71 +560,23 @@ fn help() {
     }
 }
 
-/// The value of an option is one, whatever it looks like, behind = or with one dash.
+/// The value of an option is one, whatever it looks like.
 #[test]
 fn values_that_look_like_help() {
     let folder = Folder::new("help-values");
     folder.write("message", 5);
     folder.write("keys", 12);
-    for value in [" -h", " -", "=-h", "=--help", "=--", "=--checked"] {
-        folder.says(&format!("split --label{value} message keys shares"));
-        assert!(text(&folder.bytes("shares/about")).ends_with(&format!("\nlabel {}\n", &value[1..])), "{value}");
+    for value in ["-h", "--help", "--"] {
+        folder.says(&format!("split --label {value} message keys shares"));
+        assert!(text(&folder.bytes("shares/about")).ends_with(&format!("\nlabel {value}\n")), "{value}");
         folder.remove("shares");
     }
     let help = folder.says("split --help");
-    for line in ["split --label -h -h", "split --label=x -h", "split --checked -h", "split --label --help"] {
+    for line in ["split --label -h -h", "split --label=x -h", "split --checked -h", "split --label -- --help"] {
         assert_eq!(folder.says(line), help, "{line}");
     }
     folder.says("split message keys -- --help");
     assert!(folder.0.join("--help/share-5").exists());
-}
-
-/// A value that was forgotten: the option after it is no value, whichever option it is, and is not lost.
-#[test]
-fn values_that_look_like_options() {
-    let folder = Folder::new("option-values");
-    folder.write("message", 5);
-    folder.write("keys", 12);
-    for (line, name, word) in [
-        ("split --label --checked message keys shares", "--label", "--checked"),
-        ("split --label --x message keys shares", "--label", "--x"),
-        ("split --label -- message keys shares", "--label", "--"),
-        ("split --scheme --unpadded message keys shares", "--scheme", "--unpadded"),
-        ("split --pool --label=x message shares", "--pool", "--label=x"),
-        ("scheme --length --unpadded", "--length", "--unpadded"),
-        ("scheme --range --first 3", "--range", "--first"),
-        ("scheme --first --range 0..3", "--first", "--range"),
-        ("scheme --picture --length 3", "--picture", "--length"),
-        ("prefix --readers --about about keys out", "--readers", "--about"),
-        ("reconstruct --about --checked out 1=keys", "--about", "--checked"),
-        ("rebuild --party --held keys out 1=message", "--party", "--held"),
-        ("rebuild --party 2 --held --x out 1=message", "--held", "--x"),
-    ] {
-        let said = folder.fails(line, 2);
-        let reason = format!("sharing: {name} needs a value after it, and {word:?} looks like an option; ");
-        assert!(said.starts_with(&reason), "{line}: {said}");
-        assert!(said.contains(&format!(" stands behind =, as in {name}={word}\n")), "{line}: {said}");
-    }
-}
-
-/// Files whose names start with two dashes, as the values of all options that are given files.
-#[test]
-fn files_with_two_dashes() {
-    let folder = Folder::new("dashes");
-    folder.write("message", 5);
-    folder.write("--keys", 24);
-    folder.says("pool new -- --pool --keys");
-    folder.says("split --pool=--pool message -- --shares");
-    let shares = "1=--shares/share-1 2=--shares/share-2 3=--shares/share-3";
-    let about = "--about=--shares/about";
-    folder.says(&format!("rebuild {about} --party 1 --held=--shares/share-1 out {shares} 4=--shares/share-4"));
-    folder.says(&format!("reconstruct {about} opened {shares}"));
-    folder.says("scheme --picture=--drawn");
-    assert!(folder.bytes("--drawn").starts_with(b"<svg"));
-    assert_eq!(
-        (folder.bytes("out"), folder.bytes("opened")),
-        (folder.bytes("--shares/share-1"), folder.bytes("message"))
-    );
 }
 
 #[test]
