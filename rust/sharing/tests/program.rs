@@ -579,6 +579,39 @@ fn values_that_look_like_help() {
     assert!(folder.0.join("--help/share-5").exists());
 }
 
+/// The same behind =.
+#[test]
+fn values_behind_an_equals_sign() {
+    let folder = Folder::new("equals-values");
+    folder.write("message", 5);
+    folder.write("keys", 12);
+    for value in ["-h", "--help", "--", "--checked"] {
+        folder.says(&format!("split --label={value} message keys shares"));
+        assert!(text(&folder.bytes("shares/about")).ends_with(&format!("\nlabel {value}\n")), "{value}");
+        folder.remove("shares");
+    }
+}
+
+/// Files whose names start with two dashes, as the values of all options that are given files.
+#[test]
+fn files_with_two_dashes() {
+    let folder = Folder::new("dashes");
+    folder.write("message", 5);
+    folder.write("--keys", 24);
+    folder.says("pool new -- --pool --keys");
+    folder.says("split --pool=--pool message -- --shares");
+    let shares = "1=--shares/share-1 2=--shares/share-2 3=--shares/share-3";
+    let about = "--about=--shares/about";
+    folder.says(&format!("rebuild {about} --party 1 --held=--shares/share-1 out {shares} 4=--shares/share-4"));
+    folder.says(&format!("reconstruct {about} opened {shares}"));
+    folder.says("scheme --picture=--drawn");
+    assert!(folder.bytes("--drawn").starts_with(b"<svg"));
+    assert_eq!(
+        (folder.bytes("out"), folder.bytes("opened")),
+        (folder.bytes("--shares/share-1"), folder.bytes("message"))
+    );
+}
+
 #[test]
 fn bad_usage() {
     let folder = Folder::new("usage");
