@@ -51,14 +51,6 @@ impl Input {
     pub fn is_too_long(&self) -> bool {
         self.bytes.len() > self.longest
     }
-
-    /// What is to be done about a file whose bytes were taken as keys, for a report that goes on to say why.
-    pub fn to_destroy(&self) -> String {
-        if standard::is_standard(&self.path) {
-            return "Keep nothing of what came on standard input".to_string();
-        }
-        format!("Destroy {:?} now", self.path)
-    }
 }
 
 /// How long it is.

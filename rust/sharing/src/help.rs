@@ -161,8 +161,7 @@ control characters, line ends and characters that are invisible or change the di
 hidden from anybody: let it tell nothing that is secret.
 
 Whoever has N - R of the shares can open the message, and until you remove them all of them stand in FOLDER. Hand
-each share to its party, then remove it from there, and remove the message where it is not to stay. Where more than Z
-and fewer than N - R parties learn part of the message, the report says so.
+each share to its party, then remove it from there, and remove the message where it is not to stay.
 
 With --unpadded the shares are of the earlier form: zeros alone, and only where the last block is not
 full. Keep the message's length then, which is printed and stands in FOLDER/about: it is needed to open the
@@ -184,7 +183,7 @@ and kept.
 
 Without it the file KEYS has the keys, as many as are needed: where its length is another, the one that is needed
 is said. Draw them evenly at random, keep them as secret as the message, use each key file for one message only,
-and destroy it afterwards, as the report says too. One file as MESSAGE and as KEYS is not accepted, be it by links,
+and destroy it afterwards. One file as MESSAGE and as KEYS is not accepted, be it by links,
 and neither are the keys of the pool as MESSAGE.
 "
     )

@@ -6,7 +6,7 @@ use crate::files::{read_up_to, Input, Output};
 use crate::pool::{check_no_pool, has_zeros, Pool, KEYS, LONGEST, RECORD};
 use crate::record::text;
 use crate::report::{counted, say};
-use crate::standard::check_folder;
+use crate::standard::{check_folder, is_standard};
 use gilunavoi::raw::KeyPool;
 use std::ffi::OsString;
 
@@ -35,6 +35,14 @@ fn check(keys: &Input) -> Done {
     Err(Failure::File(format!("{keys}, and {why}")))
 }
 
+/// What is to be done about the bytes that a pool was made of.
+fn destroy(keys: &Input) -> String {
+    if is_standard(&keys.path) {
+        return "Keep nothing of what came on standard input: its bytes are in the pool".to_string();
+    }
+    format!("Destroy {:?} now: its bytes are in the pool", keys.path)
+}
+
 fn new(words: &[OsString]) -> Done {
     let [folder, keys] = paths(words, ["POOL", "KEYFILE"])?;
     check_folder(&folder, "POOL")?;
@@ -46,10 +54,9 @@ fn new(words: &[OsString]) -> Done {
     let mut output = Output::in_new_folder(&folder, [KEYS, RECORD].map(OsString::from).to_vec())?;
     output.write(&[&keys.bytes, record.as_bytes()])?;
     let bytes = counted(keys.bytes.len(), "key byte");
+    let told = destroy(&keys);
     output.keep_synced(&format!(
-        "The pool {folder:?} is loaded with {bytes}.\n{}: its bytes are in the pool, and a second pool made of it would \
-         use them twice.\n",
-        keys.to_destroy()
+        "The pool {folder:?} is loaded with {bytes}.\n{told}, and a second pool made of it would use them twice.\n"
     ))
 }
 

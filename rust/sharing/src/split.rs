@@ -6,7 +6,6 @@ use crate::failure::{Done, Failure};
 use crate::files::{read, Input, Output};
 use crate::form::Form;
 use crate::pool::{check_no_pool, Pool, KEYS};
-use crate::ramp::learn_part;
 use crate::report::{counted, note};
 use crate::scheme::Scheme;
 use crate::standard::{check_folder, check_once};
@@ -29,12 +28,10 @@ fn with_key_file(arguments: &Arguments) -> Done {
     check_once([&message, &keys].map(PathBuf::as_path))?;
     check_no_pool(&keys)?;
     let splitting = Splitting::new(arguments, message, &keys)?;
-    let keys = read(keys)?;
-    let shares = splitting.shares(&keys)?;
+    let shares = splitting.shares(&read(keys)?)?;
     let mut output = Output::in_folder(&folder, splitting.names())?;
     output.write(&splitting.files(&shares))?;
-    let told = format!("{}{}: no byte of it may be used again.\n", splitting.report(&folder), keys.to_destroy());
-    output.keep(&told)?;
+    output.keep(&splitting.report(&folder))?;
     splitting.note_if_empty();
     Ok(())
 }
@@ -151,27 +148,13 @@ impl Splitting {
         let mut told = format!("{n} shares of {bytes} are in {folder:?}, share-1 to share-{n}.\n");
         // Who destroys the message after this can see here that all of it was there.
         told += &format!("The message has {}.\nThe scheme is {used}.\n", counted(self.message.bytes.len(), "byte"));
-        // Of its numbers alone nobody sees that fewer than can open the message learn something.
-        if let Some(learn) = learn_part(scheme, "the message") {
-            told += &format!("{learn}: sharing scheme {} says more.\n", scheme.in_a_row());
-        }
         if self.about.checked {
             told += &format!("A check of {} bytes is split with the message: ", digest::LENGTH);
             told += "reconstruct with --about, or --checked, looks at it and takes it off.\n";
         }
-        told + &self.length_to_keep() + &self.to_hand_out(folder)
-    }
-
-    /// What goes to the parties. Until the shares are gone from the folder, who can read it can open the message.
-    fn to_hand_out(&self, folder: &Path) -> String {
-        let (about, enough) = (folder.join(about::NAME), self.about.scheme.enough());
-        let for_all = |label: &String| format!(", with the label {} for all to read", about::quoted(label));
-        let label = self.about.label.as_ref().map_or(String::new(), for_all);
-        format!(
-            "What readers need to know, and nothing secret, is in {about:?}{label}: give it to every party.\n\
-             Hand each share to its party, then remove it from {folder:?}, and the message where it is not to stay: \
-             whoever has {enough} of the shares can open it.\n"
-        )
+        told += &self.length_to_keep();
+        let about = folder.join(about::NAME);
+        told + &format!("What readers need to know, and nothing secret, is in {about:?}: give it to every party.\n")
     }
 
     /// An empty message may be one, but mostly it is what a command that failed has left of one.

@@ -107,64 +107,21 @@ fn the_default_scheme() {
     let about = |name: &str| {
         format!("What readers need to know, and nothing secret, is in \"{name}/about\": give it to every party.\n")
     };
-    assert!(said.contains(&format!("\nThe scheme is the default, 5,2,2,5,4,3.\n{}", about("shares"))), "{said}");
+    assert!(said.ends_with(&format!("\nThe scheme is the default, 5,2,2,5,4,3.\n{}", about("shares"))), "{said}");
     folder.says("split --unpadded message keys unpadded");
     assert_eq!(folder.shares("unpadded"), expected_shares(raw::split_default, &message, &keys));
     // The same scheme, named.
     let said = folder.says("split --scheme 5,2,2,5,4,3 message keys named");
     assert_eq!(folder.shares("named"), folder.shares("shares"));
-    assert!(said.contains(&format!("\nThe scheme is 5,2,2,5,4,3.\n{}", about("named"))), "{said}");
+    assert!(said.ends_with(&format!("\nThe scheme is 5,2,2,5,4,3.\n{}", about("named"))), "{said}");
 }
 
-/// What is left to do after a split: the shares and the message, and the keys.
+/// What is left to do after a split: the shares and the message.
 #[test]
 fn what_is_left_to_do() {
     let folder = Folder::new("left-to-do");
-    folder.write("message", 25);
-    for (scheme, keys, enough) in [("", 60, 3), ("--scheme 2,0,1,2 ", 26, 2), ("--scheme 9,3,1,9,8,7,6 ", 168, 6)] {
-        folder.write("keys", keys);
-        folder.write("drawn", keys);
-        let hand_out = format!(
-            "\nHand each share to its party, then remove it from \"shares\", and the message where it is not to stay: \
-             whoever has {enough} of the shares can open it.\n"
-        );
-        let said = folder.says(&format!("split {scheme}message keys shares"));
-        let destroy = "Destroy \"keys\" now: no byte of it may be used again.\n";
-        assert!(said.ends_with(&format!("{hand_out}{destroy}")), "{said}");
-        folder.remove("shares");
-        folder.says("pool new pool drawn");
-        let said = folder.says(&format!("split {scheme}--pool pool message shares"));
-        assert!(said.contains(&format!("{hand_out}Key bytes of the pool ")) && !said.contains("Destroy "), "{said}");
-        ["shares", "pool"].into_iter().for_each(|name| folder.remove(name));
-    }
     let help = folder.says("split --help").replace('\n', " ");
     assert!(help.contains("Hand each share to its party, then remove it from there, and remove the message"), "{help}");
-}
-
-/// Where fewer than can open a message learn part of it, the report says so, in the words of `scheme`.
-#[test]
-fn a_ramp_is_pointed_out() {
-    let folder = Folder::new("ramp");
-    folder.write("message", 25);
-    for (scheme, keys, learn) in [
-        ("5,2,1,5,4,3", 18, Some("2 parties together learn part of ")),
-        ("9,3,1,9,8,7,6", 168, Some("2 to 5 parties together learn part of ")),
-        ("16,10,4,16,6", 72, Some("5 parties together learn part of ")),
-        ("5,2,2,5,4,3", 60, None),
-        ("2,0,1,2", 26, None),
-    ] {
-        folder.write("keys", keys);
-        let said = folder.says(&format!("split --scheme {scheme} message keys shares"));
-        folder.remove("shares");
-        let sheet = folder.says(&format!("scheme {scheme}"));
-        if let Some(learn) = learn {
-            let line =
-                format!("\nThe scheme is {scheme}.\n{learn}the message: sharing scheme {scheme} says more.\nWhat ");
-            assert!(said.contains(&line), "{said}");
-            assert!(sheet.contains(&format!("\n{learn}it, and ")), "{sheet}");
-        }
-        assert_eq!([said, sheet].map(|text| text.contains(" learn part of ")), [learn.is_some(); 2], "{scheme}");
-    }
 }
 
 /// What is said to who takes shares of one form for the other. The message of 24 bytes fills its blocks, so that its

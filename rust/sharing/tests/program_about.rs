@@ -19,21 +19,8 @@ mod pool_folder;
 mod shares_folder;
 
 const PADDED: &str = "gilunavoi about 1\nscheme 5,2,2,5,4,3\nform padded\ndate 2026-11-17\n";
-/// What is said of the file, where it has no label and where it has this one, and of the shares.
-fn written(folder: &str, label: Option<&str>) -> String {
-    let label = label.map_or(String::new(), |label| format!(", with the label \"{label}\" for all to read"));
-    format!(
-        "What readers need to know, and nothing secret, is in \"{folder}/about\"{label}: give it to every party.\n\
-         Hand each share to its party, then remove it from \"{folder}\", and the message where it is not to stay: whoever \
-         has 3 of the shares can open it.\n"
-    )
-}
-
-/// The label in a line of an about file.
-fn label_in(about: &[u8]) -> Option<String> {
-    text(about).lines().find_map(|line| line.strip_prefix("label ")).map(str::to_string)
-}
-
+const WRITTEN: &str =
+    "What readers need to know, and nothing secret, is in \"shares/about\": give it to every party.\n";
 const SCHEME: &str = "The scheme is 5,2,2,5,4,3, as \"shares/about\" says.\n";
 const END_CHECKED: &str =
     "Only its end could be checked: a wrong scheme, party, prefix, form or number of readers can go unnoticed.\n";
@@ -47,9 +34,7 @@ fn folder_with_letter(test: &str, options: &[&str], keys: usize) -> Folder {
     let mut command = folder.command("split message keys shares");
     let output = command.args(options).output().expect("it runs");
     assert_eq!((output.status.code(), text(&output.stderr)), (Some(0), String::new()), "{options:?}");
-    let written = written("shares", label_in(&folder.bytes("shares/about")).as_deref());
-    let end = format!("{written}Destroy \"keys\" now: no byte of it may be used again.\n");
-    assert!(text(&output.stdout).ends_with(&end), "{}", text(&output.stdout));
+    assert!(text(&output.stdout).ends_with(WRITTEN), "{}", text(&output.stdout));
     folder
 }
 
@@ -81,8 +66,7 @@ fn what_split_writes() {
         let keys = folder.bytes("keys");
         folder.put_pool(&keys, 0);
         let said = folder.command("split --pool pool message from-pool").args(options).output().expect("it runs");
-        let written = written("from-pool", label_in(about.as_bytes()).as_deref());
-        assert!(text(&said.stdout).contains(&written), "{}", text(&said.stdout));
+        assert!(text(&said.stdout).contains(&WRITTEN.replace("shares/", "from-pool/")), "{}", text(&said.stdout));
         assert_eq!(text(&folder.bytes("from-pool/about")), about);
     }
 }
@@ -475,10 +459,8 @@ fn characters_of_labels() {
     folder.put("message", MESSAGE);
     folder.put("keys", &Random::new(7).bytes(72));
     let split = |label: String| {
-        let mut command = folder.command("split message keys shares --label");
-        let output = command.arg(&label).output().expect("it runs");
-        folder.remove("shares");
-        output
+        ["shares", "opened"].into_iter().for_each(|name| folder.remove(name));
+        folder.command("split message keys shares --label").arg(&label).output().expect("it runs")
     };
     let ranges =
         [(0x61c, 0x61c), (0x200b, 0x200b), (0x200e, 0x200f), (0x2028, 0x202e), (0x2060, 0x206f), (0xfeff, 0xfeff)];
@@ -495,7 +477,8 @@ fn characters_of_labels() {
         let label = format!("u{}", char::from_u32(character).expect("a character"));
         let output = split(label.clone());
         assert_eq!(output.status.code(), Some(0), "{character:x}: {}", text(&output.stderr));
-        assert!(text(&output.stdout).contains(&format!(", with the label \"{label}\" for all to read: ")));
+        let said = folder.says(&format!("reconstruct --about shares/about opened{}", of(&[1, 2, 3])));
+        assert!(said.contains(&format!("\nIt is labelled \"{label}\" and was split on 2026-11-17.\n")), "{said}");
     }
 }
 

@@ -33,7 +33,6 @@ fn splits_alike(folder: &Folder, options: &str, keys: &[u8], left: usize) {
     folder.put("keys", keys);
     let alike = folder.says(&format!("split {options}message keys alike"));
     let alike = alike.replace("\"alike\"", "\"shares\"").replace("\"alike/", "\"shares/");
-    let alike = alike.strip_suffix("Destroy \"keys\" now: no byte of it may be used again.\n").expect("what to do");
     let used = keys.len();
     assert_eq!(said, format!("{alike}Key bytes of the pool \"pool\": {used} used for this message, {left} left.\n"));
     for share in fs::read_dir(folder.0.join("alike")).expect("a folder").flatten() {

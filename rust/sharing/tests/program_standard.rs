@@ -56,9 +56,6 @@ fn splits() {
         let said = says(&folder, &format!("{line} piped"), input);
         let told = "5 shares of 30 bytes are in \"piped\", share-1 to share-5.\nThe message has 25 bytes.\n";
         assert!(said.starts_with(told), "{said}");
-        let destroy =
-            if line.ends_with('-') { "Keep nothing of what came on standard input" } else { "Destroy \"keys\" now" };
-        assert!(said.ends_with(&format!("\n{destroy}: no byte of it may be used again.\n")), "{said}");
         for party in 1..=5 {
             assert_eq!(folder.bytes(&format!("piped/share-{party}")), folder.bytes(&format!("shares/share-{party}")));
         }
