@@ -21,9 +21,6 @@ pub const NAME: &str = "about";
 const KIND: &str = "gilunavoi about ";
 const VERSION: &str = "1";
 
-/// What some editors write before all text.
-const BYTE_ORDER_MARK: &str = "\u{feff}";
-
 /// No about file is nearly as long.
 const LONGEST: usize = 1000;
 
@@ -56,24 +53,27 @@ impl fmt::Display for About {
 
 /// The label that is asked for, if one is.
 pub fn label_of(arguments: &Arguments) -> Result<Option<String>, Failure> {
-    match arguments.option("--label").map(OsStr::to_str) {
+    match arguments.option("--label").map(|label| label.to_str().ok_or(LABEL).and_then(label_in)) {
         None => Ok(None),
-        Some(Some(text)) if is_label(text) => Ok(Some(text.to_string())),
-        Some(_) => usage(format!("--label: needed is {LABEL}")),
+        Some(Ok(label)) => Ok(Some(label)),
+        Some(Err(needed)) => usage(format!("--label: needed is {needed}")),
     }
 }
 
-const LABEL: &str = "text of 1 to 200 bytes, not blank, without control characters, line ends and invisible characters";
+const LABEL: &str = "text of 1 to 200 bytes, without control characters and line ends";
+const SEEN: &str = "text that is not blank, without invisible characters";
 
-/// A label stands in one line, and in a report beside other words, which it must not hide or turn around.
-fn is_label(text: &str) -> bool {
-    let fits = (1..=LONGEST_LABEL).contains(&text.len()) && !text.trim().is_empty();
-    fits && !text
-        .contains(|character: char| character.is_control() || is_line_end(character) || is_invisible(character))
-}
-
-fn is_line_end(character: char) -> bool {
-    matches!(character, '\u{2028}' | '\u{2029}')
+/// This text as a label, or what is needed in its place. A label stands in one line, and in a report beside other words, which
+/// it must not hide or turn around.
+fn label_in(text: &str) -> Result<String, &'static str> {
+    let ends_line = |character: char| character.is_control() || "\u{2028}\u{2029}".contains(character);
+    if !(1..=LONGEST_LABEL).contains(&text.len()) || text.contains(ends_line) {
+        return Err(LABEL);
+    }
+    if text.trim().is_empty() || text.contains(is_invisible) {
+        return Err(SEEN);
+    }
+    Ok(text.to_string())
 }
 
 /// Characters that show nothing themselves, and those that change the direction in which text is shown. U+200C and U+200D,
@@ -99,15 +99,14 @@ impl About {
 }
 
 /// Only what split writes is an about file: one that was torn or changed is better refused than guessed at, since a wrong
-/// scheme opens to a wrong message. Lines that end in CR and LF, and a byte order mark before the first, are taken all the
-/// same, as mail and editors make them: they change no value.
+/// scheme opens to a wrong message. Lines that end in CR and LF are taken all the same, as mail and editors make them: that
+/// changes no value.
 fn parse(file: &Input) -> Result<About, String> {
-    let bytes = file.bytes.strip_prefix(BYTE_ORDER_MARK.as_bytes()).unwrap_or(&file.bytes);
-    check_version(bytes)?;
+    check_version(&file.bytes)?;
     if file.is_too_long() {
         return Err(format!("it has more than {LONGEST} bytes"));
     }
-    let text = std::str::from_utf8(bytes).map_err(|_| "it is no text in UTF-8".to_string())?;
+    let text = std::str::from_utf8(&file.bytes).map_err(|_| "it is no text in UTF-8".to_string())?;
     let mut lines = Lines::after_first(text)?;
     let (scheme, form) = (lines.scheme()?, lines.form()?);
     let about = About { scheme, form, checked: lines.check(form)?, date: lines.date()?, label: lines.label()? };
@@ -202,10 +201,8 @@ impl<'a> Lines<'a> {
     }
 
     fn label(&mut self) -> Result<Option<String>, String> {
-        match self.value("label") {
-            Some(value) if !is_label(value) => Err(self.wrong(LABEL)),
-            value => Ok(value.map(str::to_string)),
-        }
+        let label = self.value("label").map(label_in).transpose();
+        label.map_err(|needed| self.wrong(needed))
     }
 
     fn end(&self) -> Result<(), String> {

@@ -14,9 +14,8 @@ pub use shares::{check, rebuild};
 /// What every command says that reads shares.
 const ABOUT: &str = "\
 --about FILE is the file that split wrote beside the shares, about: it says all of the scheme, the form, the length
-and the check, so that --scheme and --length cannot stand with it. It is taken only as split writes it, but for a
-byte order mark and lines that end in CR and LF, as some editors write them; anything else in it is refused, with
-the line. A file of a later version is refused.
+and the check, so that --scheme and --length cannot stand with it. It is taken only as split writes it, but for
+lines that end in CR and LF; anything else in it is refused, with the line. A file of a later version is refused.
 ";
 
 /// What every command says that is given PARTY=FILE.
