@@ -21,12 +21,10 @@ pub const LENGTH: usize = 32;
 /// The longest message that has one.
 pub const LONGEST_MESSAGE: usize = MAX_MESSAGE - LENGTH;
 
-/// The refusal of a message that is too long with its check. To the library both together are the message, which may be
-/// longer than this one.
-pub fn too_long(given: &str) -> Failure {
-    let reason = format!("the message with its check is longer than {MAX_MESSAGE} bytes");
-    let most = format!("with --checked a message has at most {LONGEST_MESSAGE}");
-    Failure::RefusedFor(5, reason, format!("{given}, and the check takes {LENGTH} more: {most}"))
+/// What is said of a message that is refused for its length with its check. To the library both together are the message, which
+/// may be longer than this one.
+pub fn too_long(given: &str) -> String {
+    format!("{given}, and the check takes {LENGTH} more: with --checked a message has at most {LONGEST_MESSAGE}")
 }
 
 /// The message and its check. Both are split, so that the check is as secret as the message: from a digest beside the

@@ -13,8 +13,6 @@ pub enum Failure {
     Usage(String),
     /// A library refused: the number, and what was given or is needed.
     Refused(u64, String),
-    /// The same where the library's words for the number would mislead: the number, other words, and what was given.
-    RefusedFor(u64, String, String),
     /// A file could not be read or written, or what was read is not what it has to be.
     File(String),
     /// The signal of this number came while files were being written.
@@ -38,7 +36,6 @@ impl fmt::Display for Failure {
         match self {
             Failure::Usage(text) => write!(f, "{text}\n(sharing --help says how it is used)"),
             Failure::Refused(number, detail) => write!(f, "refused ({number}): {}\n{detail}", reason(*number)),
-            Failure::RefusedFor(number, reason, detail) => write!(f, "refused ({number}): {reason}\n{detail}"),
             Failure::File(text) => write!(f, "{text}"),
             Failure::Interrupted(_) => write!(f, "interrupted, and nothing is kept of what was written"),
             Failure::Besides(failure, fact) => write!(f, "{failure}\n{fact}"),
@@ -59,7 +56,7 @@ impl Failure {
             Failure::Usage(_) => return ExitCode::from(2),
             Failure::Interrupted(number) => interrupt::end(*number),
             Failure::Besides(failure, _) => return failure.end(),
-            Failure::Refused(..) | Failure::RefusedFor(..) | Failure::File(_) => {}
+            Failure::Refused(..) | Failure::File(_) => {}
         }
         ExitCode::from(1)
     }

@@ -123,8 +123,9 @@ Shamir's scheme: where it is less, the scheme of as many parties that has this i
 
 With --length a second table is of a message of L bytes, and not of a block: before it stand the number of its
 blocks, its key bytes and the bytes of its shares, and beside the bytes to fetch how many times the message
-they are. The message is padded, as split does it; with --unpadded it is of the earlier form. With --checked it has
-a check, as split --checked makes it, so that {CHECK} bytes more are split; L is the length without them.
+they are. The message is padded, as split does it; with --unpadded it is of the earlier form. With a check, as
+split --checked makes it, {CHECK} bytes more are split: give their sum, for a letter of 33 bytes {with_check}. Or give
+--checked beside the length without them.
 
 With --range or --first the first table goes on: how many of the rows that each party sends are needed for these
 bytes of a message, how many bytes of a block those are, from all parties together, and which rows they are, in
@@ -136,6 +137,7 @@ each row, what is copied from where, and which rows each party sends. Of many ro
 
 Spaces may stand for the commas, here and after --scheme. The former default was {former}.
 ",
+        with_check = 33 + CHECK,
         former = Scheme::former_default().in_a_row()
     )
 }

@@ -8,7 +8,7 @@ use crate::picture::picture;
 use crate::ramp::ramp;
 use crate::range::{rows_in_order, Range};
 use crate::report::{counted, say};
-use crate::scheme::{in_a_row, Block, Scheme};
+use crate::scheme::{Block, Scheme};
 use crate::target::Target;
 use std::ffi::OsString;
 use std::path::Path;
@@ -18,7 +18,7 @@ pub fn run(arguments: &Arguments) -> Done {
     let drawing = arguments.option("--picture").map(|file| Target::new(Path::new(file))).transpose()?;
     let scheme = Scheme::from_words(arguments.words.iter().map(OsString::as_os_str))?;
     let block = scheme.check()?;
-    let mut text = format!("{}{}{}", in_words(&scheme), of_a_block(&block), ramp(&scheme));
+    let mut text = format!("{scheme}\n{}{}", of_a_block(&block), ramp(&scheme));
     text += &block_table(&scheme, &block, range)?;
     if let Some(message) = message {
         text += &message.costs(&scheme).map_err(|number| message.refused(number))?;
@@ -30,13 +30,6 @@ pub fn run(arguments: &Arguments) -> Done {
             target.put(picture(&scheme, &block).as_bytes(), &told)
         }
     }
-}
-
-/// What N, R and Z are, for who does not know the letters.
-fn in_words(scheme: &Scheme) -> String {
-    let absent = if scheme.r == 0 { "none".to_string() } else { scheme.r.to_string() };
-    let counts = in_a_row(&scheme.counts);
-    format!("{} parties; {absent} may be absent, {} may spy; counts {counts}\n", scheme.n, scheme.z)
 }
 
 fn of_a_block(block: &Block) -> String {
@@ -88,10 +81,7 @@ impl Message {
 
     fn refused(&self, number: u64) -> Failure {
         let given = format!("--length is {}", self.length);
-        match self.checked {
-            true => digest::too_long(&given),
-            false => Failure::Refused(number, given),
-        }
+        Failure::Refused(number, if self.checked { digest::too_long(&given) } else { given })
     }
 
     /// Its keys and shares, and what of them is fetched for each count.

@@ -85,10 +85,7 @@ impl Splitting {
         let contents = if checked { digest::with_check(&message.bytes)? } else { message.bytes.clone() };
         let unpadded = arguments.flag("--unpadded");
         let lengths = scheme.lengths(unpadded, contents.len());
-        let lengths = lengths.map_err(|number| match checked {
-            true => digest::too_long(&message.to_string()),
-            false => Failure::Refused(number, message.to_string()),
-        })?;
+        let lengths = lengths.map_err(|number| Failure::Refused(number, too_long(&message, checked)))?;
         let form = if unpadded { Form::Told(contents.len()) } else { Form::Padded };
         let about = About { scheme, form, checked, date, label };
         Ok(Splitting { about_file: about.to_string(), about, message, contents, lengths })
@@ -173,4 +170,12 @@ impl Splitting {
         };
         format!("Keep the {length}: it is needed to open the message, and the shares do not hold it.\n")
     }
+}
+
+/// How long a message is that is refused for it.
+fn too_long(message: &Input, checked: bool) -> String {
+    if checked {
+        return digest::too_long(&message.to_string());
+    }
+    message.to_string()
 }

@@ -173,7 +173,7 @@ fn files_are_the_owners_alone() {
 #[test]
 fn schemes() {
     let folder = Folder::new("schemes");
-    let sheet = "7 parties; 4 may be absent, 1 may spy; counts 7,4,3\n\
+    let sheet = "N 7, R 4, Z 1, counts 7,4,3\n\
         A block has 6 bytes in 3 rows, and takes 3 key bytes.\n\
         1 party learns nothing of a message but its length in blocks, and any 3 open it.\n\
         2 parties together learn part of it, and can test a guess of all of it, whatever the keys: a wrong one hardly ever fits.\n\
@@ -187,10 +187,9 @@ fn schemes() {
         3          3       9\n";
     assert_eq!(folder.says("scheme 7 4 1 7,4,3"), sheet);
     assert_eq!(folder.says("scheme 7,4,1,7,4,3"), sheet);
-    let default = "5 parties; 2 may be absent, 2 may spy; counts 5,4,3\n\
+    let default = "N 5, R 2, Z 2, counts 5,4,3\n\
         A block has 6 bytes in 6 rows, and takes 12 key bytes.\n";
     assert!(folder.says("scheme").starts_with(default));
-    assert!(folder.says("scheme 2,0,1,2").starts_with("2 parties; none may be absent, 1 may spy; counts 2\n"));
     assert_eq!(folder.says("scheme"), folder.says("scheme 5 2 2 5 4 3"));
     for (scheme, number) in [
         ("1 0 1 1", 1),

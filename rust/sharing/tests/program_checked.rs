@@ -227,9 +227,6 @@ fn what_it_does_not_notice() {
     assert_eq!(folder.bytes("opened"), folder.bytes("forged"));
 }
 
-/// The refusal of a message that is too long with its check, which need not be too long itself.
-const TOO_LONG: &str = "sharing: refused (5): the message with its check is longer than 16384 bytes\n";
-
 /// A message that leaves no room for the check is refused before keys are looked at, or used.
 #[test]
 fn too_long() {
@@ -239,15 +236,15 @@ fn too_long() {
     for length in [LONGEST + 1, MAX_MESSAGE, MAX_MESSAGE + 1] {
         folder.write("message", length);
         let detail = format!(
-            "\"message\" has {length} bytes, and the check takes 32 more: with --checked a message has at most 16352\n"
+            "\n\"message\" has {length} bytes, and the check takes 32 more: with --checked a message has at most 16352\n"
         );
         for line in ["message keys shares", "--pool pool message shares", "--unpadded --pool pool message shares"] {
-            assert_eq!(folder.fails(&format!("split --checked {line}"), 1), format!("{TOO_LONG}{detail}"));
+            folder.refuses(&format!("split --checked {line}"), 5, &detail);
         }
     }
     assert_eq!(folder.position(), 0);
-    // Without a check the library's own words are right.
-    folder.refuses("split message keys shares", 5, "\"message\" has 16385 bytes\n");
+    // Without a check nothing is said of one.
+    folder.refuses("split message keys shares", 5, "bytes\n\"message\" has 16385 bytes\n");
 }
 
 /// What a message costs with its check is what one of 32 bytes more does, but for how many times the message is fetched.
@@ -276,11 +273,10 @@ fn what_it_costs() {
             assert_eq!(costs(checked), costs(longer), "{length}{options}");
         }
         for length in [LONGEST + 1, usize::MAX] {
-            let said = folder.fails(&format!("scheme --checked --length {length}{options}"), 1);
             let detail = format!(
-                "--length is {length}, and the check takes 32 more: with --checked a message has at most 16352\n"
+                "\n--length is {length}, and the check takes 32 more: with --checked a message has at most 16352\n"
             );
-            assert_eq!(said, format!("{TOO_LONG}{detail}"));
+            folder.refuses(&format!("scheme --checked --length {length}{options}"), 5, &detail);
         }
     }
     let said = folder.fails("scheme --checked", 2);
@@ -465,5 +461,6 @@ fn usage() {
     assert!(words.contains("gives --checked beside --about"), "{words}");
     assert!(words.contains("head -c -32") && words.contains("The check is no signature"), "{words}");
     assert!(folder.says("split --help").contains("16352 bytes"));
+    assert!(folder.says("scheme --help").contains("for a letter of 33 bytes 65."));
     assert!(folder.says("scheme --help").contains("[--length L [--unpadded] [--checked]]"));
 }
