@@ -140,7 +140,7 @@ impl Folder {
         let (mut kept, mut cleared) = (0, 0);
         for round in 0..24 {
             self.remove(made);
-            let signal = [1, 2, 3, 15][round as usize % 4];
+            let signal = [1, 2, 15][round as usize % 3];
             let run = command();
             std::thread::sleep(whole_run * round / 20);
             // SAFETY: it reads no memory of this process, and the number is that of a child that was not waited for yet.
