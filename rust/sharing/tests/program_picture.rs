@@ -168,6 +168,26 @@ fn rows_left_out() {
     assert!(cells(&picture).contains(&"m839 row 139, x⁶".to_string()));
 }
 
+/// Where fewer than can open a message learn part of it, the picture says so, in the words of the sheet.
+#[test]
+fn who_learns_part() {
+    let folder = Folder::new("picture-ramp");
+    for (scheme, learn) in [
+        ("5,2,1,5,4,3", Some("2 parties together learn part of it, and ")),
+        ("9,3,1,9,8,7,6", Some("2 to 5 parties together learn part of it, and ")),
+        ("16,10,4,16,6", Some("5 parties together learn part of it, and ")),
+        ("5,2,2,5,4,3", None),
+        ("2,0,1,2", None),
+    ] {
+        let (picture, sheet) = (picture(&folder, scheme), folder.says(&format!("scheme {scheme}")));
+        if let Some(learn) = learn {
+            assert!(picture.contains(&format!(" parties open a message, {learn}")), "{scheme}");
+            assert!(sheet.contains(&format!("\n{learn}")), "{sheet}");
+        }
+        assert_eq!([&picture, &sheet].map(|text| text.contains(" learn part of ")), [learn.is_some(); 2], "{scheme}");
+    }
+}
+
 /// The picture among the documents is the one that the program draws.
 #[test]
 fn the_picture_among_the_documents() {

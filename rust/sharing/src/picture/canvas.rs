@@ -36,7 +36,7 @@ text { fill: #e9edf2; }
 .g4 { fill: #f27fae; stroke: #f27fae; }
 .g5 { fill: #4fc6d3; stroke: #4fc6d3; }
 .g6 { fill: #c3c552; stroke: #c3c552; }
-.g7 { fill: #b0623a; stroke: #b0623a; }
+.g7 { fill: #d09a6e; stroke: #d09a6e; }
 .cell { fill-opacity: 0.2; }
 .mark { stroke: none; }
 .bracket { fill: none; }
