@@ -37,6 +37,20 @@ static void sizes(void) {
     EXPECT(sizeof(sharing_lengths_answer) == 48);
 }
 
+/* The names of the refusals, in the table's order: the numbers are those that the calls are expected to answer below. */
+static void names_of_refusals(void) {
+    const int named[] = {
+        SHARING_ACCEPTED, SHARING_REFUSED_PARTIES, SHARING_REFUSED_ABSENT_OR_COLLUDING, SHARING_REFUSED_COUNTS,
+        SHARING_REFUSED_BLOCK_LENGTH, SHARING_REFUSED_MESSAGE_LENGTH, SHARING_REFUSED_READERS,
+        SHARING_REFUSED_PARTY_NUMBERS, SHARING_REFUSED_KEYS_LENGTH, SHARING_REFUSED_SHARE_LENGTH,
+        SHARING_REFUSED_OUT_LENGTH, SHARING_REFUSED_PADDING, SHARING_REFUSED_ARCHIVE_COUNT,
+        SHARING_REFUSED_ARCHIVE_ENTRIES, SHARING_REFUSED_ENTRY_NUMBER, SHARING_REFUSED_RANGE, SHARING_REFUSED_POOL,
+        SHARING_REFUSED_TOO_FEW_SHARES, SHARING_REFUSED_DISAGREEING,
+    };
+    EXPECT(sizeof named / sizeof *named == 19);
+    for (int number = 0; number <= 18; number++) EXPECT(named[number] == number);
+}
+
 static void arithmetic(void) {
     EXPECT(sharing_gf256_add(0x57, 0x83) == 0xd4);
     EXPECT(sharing_gf256_mul(0x57, 0x83) == 0xc1);
@@ -52,7 +66,7 @@ static void schemes(void) {
     sharing_scheme s = sharing_check(9, 3, 1, long_block, sizeof long_block);
     EXPECT(s.refusal == 0 && s.block == 840 && s.rows == 168);
     s = sharing_check(10, 4, 1, too_long, sizeof too_long);
-    EXPECT(s.refusal == SHARING_REFUSED_BLOCK_LENGTH && s.block == 0 && s.rows == 0);
+    EXPECT(s.refusal == 4 && s.block == 0 && s.rows == 0);
     s = sharing_check(5, 1, 2, counts, 2);
     EXPECT(s.refusal == 0 && s.block == 6 && s.rows == 3);
     s = sharing_check_default();
@@ -60,9 +74,9 @@ static void schemes(void) {
     sharing_tried_scheme t = sharing_check_tried(9, 3, 1, long_block, sizeof long_block);
     EXPECT(t.refusal == 0 && t.block == 840 && t.rows == 168 && t.tried == 105);
     t = sharing_check_tried(10, 4, 1, too_long, sizeof too_long);
-    EXPECT(t.refusal == SHARING_REFUSED_BLOCK_LENGTH && t.block == 0 && t.rows == 0 && t.tried == 93);
+    EXPECT(t.refusal == 4 && t.block == 0 && t.rows == 0 && t.tried == 93);
     t = sharing_check_tried(10, 5, 1, too_long, sizeof too_long);
-    EXPECT(t.refusal == SHARING_REFUSED_COUNTS && t.block == 0 && t.rows == 0 && t.tried == 0);
+    EXPECT(t.refusal == 3 && t.block == 0 && t.rows == 0 && t.tried == 0);
     t = sharing_check_tried_default();
     EXPECT(t.refusal == 0 && t.block == 6 && t.rows == 6 && t.tried == 2);
 }
@@ -91,13 +105,13 @@ static void message_lengths(void) {
     lengths_are(sharing_lengths_padded_default(33), 6, 72, 36, 180, 36);
     lengths_are(sharing_lengths_default(16384), 2731, 32772, 16386, 81930, 16384);
     lengths_are(sharing_lengths_padded_default(16384), 2731, 32772, 16386, 81930, 16386);
-    lengths_refused(sharing_lengths(5, 1, 0, counts, 2, 13), SHARING_REFUSED_ABSENT_OR_COLLUDING);
-    lengths_refused(sharing_lengths(10, 4, 1, too_long, 4, 16385), SHARING_REFUSED_BLOCK_LENGTH);
-    lengths_refused(sharing_lengths(5, 1, 2, counts, 2, SIZE_MAX), SHARING_REFUSED_MESSAGE_LENGTH);
-    lengths_refused(sharing_lengths_padded(10, 4, 1, too_long, 4, 16385), SHARING_REFUSED_BLOCK_LENGTH);
-    lengths_refused(sharing_lengths_padded(5, 1, 2, counts, 2, SIZE_MAX), SHARING_REFUSED_MESSAGE_LENGTH);
-    lengths_refused(sharing_lengths_default(16385), SHARING_REFUSED_MESSAGE_LENGTH);
-    lengths_refused(sharing_lengths_padded_default(16385), SHARING_REFUSED_MESSAGE_LENGTH);
+    lengths_refused(sharing_lengths(5, 1, 0, counts, 2, 13), 2);
+    lengths_refused(sharing_lengths(10, 4, 1, too_long, 4, 16385), 4);
+    lengths_refused(sharing_lengths(5, 1, 2, counts, 2, SIZE_MAX), 5);
+    lengths_refused(sharing_lengths_padded(10, 4, 1, too_long, 4, 16385), 4);
+    lengths_refused(sharing_lengths_padded(5, 1, 2, counts, 2, SIZE_MAX), 5);
+    lengths_refused(sharing_lengths_default(16385), 5);
+    lengths_refused(sharing_lengths_padded_default(16385), 5);
 }
 
 static void splits(void) {
@@ -146,11 +160,8 @@ static void ranges(void) {
     const uint8_t of_four[] = {14, 0, 232, 61, 0, 142, 137, 0, 92, 226, 0, 124}, before[] = {7, 7, 7, 7, 7};
     const struct { size_t start, length, value; } accepted[] = {{0, 3, 8}, {1, 1, 8}, {2, 1, 4}, {0, 0, 0}, {5, 0, 0}};
     const struct { size_t start, length, prefixes, out, refusal; } refused[] = {
-        {0, 3, 12, 2, SHARING_REFUSED_OUT_LENGTH}, {0, 3, 12, 5, SHARING_REFUSED_OUT_LENGTH},
-        {0, 3, 11, 2, SHARING_REFUSED_SHARE_LENGTH}, {4, 2, 11, 3, SHARING_REFUSED_RANGE},
-        {6, 0, 12, 0, SHARING_REFUSED_RANGE}, {SIZE_MAX, 0, 12, 0, SHARING_REFUSED_RANGE},
-        {SIZE_MAX, 1, 12, 0, SHARING_REFUSED_RANGE}, {SIZE_MAX, 4, 12, 3, SHARING_REFUSED_RANGE},
-        {1, SIZE_MAX, 12, 0, SHARING_REFUSED_RANGE},
+        {0, 3, 12, 2, 10}, {0, 3, 12, 5, 10}, {0, 3, 11, 2, 9}, {4, 2, 11, 3, 15}, {6, 0, 12, 0, 15},
+        {SIZE_MAX, 0, 12, 0, 15}, {SIZE_MAX, 1, 12, 0, 15}, {SIZE_MAX, 4, 12, 3, 15}, {1, SIZE_MAX, 12, 0, 15},
     };
     uint8_t out[5];
     for (size_t i = 0; i < sizeof accepted / sizeof *accepted; i++) {
@@ -178,7 +189,7 @@ static void padded_openings(void) {
     EXPECT(a.refusal == 0 && a.used == 12 && a.length == 5 && memcmp(opened, message, 5) == 0 && opened[5] == 128);
     memset(opened, 7, 6);
     a = sharing_reconstruct_padded(5, 1, 2, counts, 2, four, 4, of_earlier, 12, opened, 6);
-    EXPECT(a.refusal == SHARING_REFUSED_PADDING && a.used == 0 && a.length == 0 && opened[0] == 7 && opened[5] == 7);
+    EXPECT(a.refusal == 11 && a.used == 0 && a.length == 0 && opened[0] == 7 && opened[5] == 7);
 }
 
 /* The first byte was taken before. Each split takes six: first the keys of the known shares, then others. */
@@ -205,11 +216,9 @@ static void pools(void) {
 static void refused_pools(void) {
     static const uint8_t too_long[16385];
     const struct { size_t length, position, n, message, out, refusal; } refused[] = {
-        {13, 7, 5, 5, 14, SHARING_REFUSED_OUT_LENGTH}, {13, 8, 5, 5, 15, SHARING_REFUSED_POOL},
-        {13, 14, 5, 0, 0, SHARING_REFUSED_POOL}, {12, 1, 5, 5, 15, SHARING_REFUSED_POOL},
-        {14, 1, 5, 5, 14, SHARING_REFUSED_POOL}, {13, SIZE_MAX, 5, 5, 15, SHARING_REFUSED_POOL},
-        {13, SIZE_MAX - 5, 5, 5, 15, SHARING_REFUSED_POOL}, {SIZE_MAX, SIZE_MAX, 5, 0, 0, SHARING_REFUSED_POOL},
-        {14, 14, 5, 16385, 15, SHARING_REFUSED_MESSAGE_LENGTH}, {14, 14, 1, 16385, 15, SHARING_REFUSED_PARTIES},
+        {13, 7, 5, 5, 14, 10}, {13, 8, 5, 5, 15, 16}, {13, 14, 5, 0, 0, 16}, {12, 1, 5, 5, 15, 16}, {14, 1, 5, 5, 14, 16},
+        {13, SIZE_MAX, 5, 5, 15, 16}, {13, SIZE_MAX - 5, 5, 5, 15, 16}, {SIZE_MAX, SIZE_MAX, 5, 0, 0, 16},
+        {14, 14, 5, 16385, 15, 5}, {14, 14, 1, 16385, 15, 1},
     };
     uint8_t out[15], before[15];
     memset(before, 7, 15);
@@ -247,7 +256,7 @@ static void rebuilding(void) {
     wrong[7] ^= 1;
     memset(out, 7, 4);
     a = sharing_rebuild(5, 1, 2, counts, 2, all, 5, wrong, 15, 3, changed, 3, out, 3);
-    EXPECT(a.refusal == SHARING_REFUSED_DISAGREEING && a.differing == 0 && a.party == 0 && out[0] == 7 && out[2] == 7);
+    EXPECT(a.refusal == 18 && a.differing == 0 && a.party == 0 && out[0] == 7 && out[2] == 7);
     /* No blocks: neither a share nor a copy has a byte. */
     a = sharing_rebuild(5, 1, 2, counts, 2, four, 4, of_four, 0, 3, changed, 0, out, 0);
     EXPECT(a.refusal == 0 && a.differing == 0 && a.party == 0 && out[0] == 7);
@@ -257,14 +266,10 @@ static void rebuilding(void) {
 static void refused_rebuilding(void) {
     const uint8_t three[] = {1, 2, 4}, equal[] = {1, 2, 2, 5}, outside[] = {1, 2, 4, 6};
     const struct { const uint8_t *parties; size_t many, shares, party, held, out, refusal; } refused[] = {
-        {four, 4, 12, 0, 3, 3, SHARING_REFUSED_PARTY_NUMBERS}, {four, 4, 12, 6, 3, 3, SHARING_REFUSED_PARTY_NUMBERS},
-        {equal, 4, 12, 3, 3, 3, SHARING_REFUSED_PARTY_NUMBERS},
-        {outside, 4, 12, 3, 3, 3, SHARING_REFUSED_PARTY_NUMBERS},
-        {three, 3, 9, 3, 3, 3, SHARING_REFUSED_TOO_FEW_SHARES}, {three, 3, 8, 3, 2, 2, SHARING_REFUSED_TOO_FEW_SHARES},
-        {three, 0, 0, 3, 0, 0, SHARING_REFUSED_TOO_FEW_SHARES}, {three, 3, 9, 6, 3, 3, SHARING_REFUSED_PARTY_NUMBERS},
-        {four, 4, 11, 3, 3, 3, SHARING_REFUSED_SHARE_LENGTH}, {four, 4, 12, 3, 2, 3, SHARING_REFUSED_SHARE_LENGTH},
-        {four, 4, 12, 3, 4, 2, SHARING_REFUSED_SHARE_LENGTH}, {four, 4, 0, 3, 3, 0, SHARING_REFUSED_SHARE_LENGTH},
-        {four, 4, 12, 3, 3, 2, SHARING_REFUSED_OUT_LENGTH}, {four, 4, 12, 3, 0, 4, SHARING_REFUSED_OUT_LENGTH},
+        {four, 4, 12, 0, 3, 3, 7}, {four, 4, 12, 6, 3, 3, 7}, {equal, 4, 12, 3, 3, 3, 7}, {outside, 4, 12, 3, 3, 3, 7},
+        {three, 3, 9, 3, 3, 3, 17}, {three, 3, 8, 3, 2, 2, 17}, {three, 0, 0, 3, 0, 0, 17}, {three, 3, 9, 6, 3, 3, 7},
+        {four, 4, 11, 3, 3, 3, 9}, {four, 4, 12, 3, 2, 3, 9}, {four, 4, 12, 3, 4, 2, 9}, {four, 4, 0, 3, 3, 0, 9},
+        {four, 4, 12, 3, 3, 2, 10}, {four, 4, 12, 3, 0, 4, 10},
     };
     uint8_t out[4] = {7, 7, 7, 7};
     const uint8_t before[] = {7, 7, 7, 7};
@@ -275,7 +280,7 @@ static void refused_rebuilding(void) {
         EXPECT(a.refusal == refused[i].refusal && a.differing == 0 && a.party == 0 && memcmp(out, before, 4) == 0);
     }
     sharing_rebuild_answer a = sharing_rebuild(5, 1, 0, counts, 2, three, 3, shares, 8, 6, keys, 2, out, 2);
-    EXPECT(a.refusal == SHARING_REFUSED_ABSENT_OR_COLLUDING && a.differing == 0 && a.party == 0);
+    EXPECT(a.refusal == 2 && a.differing == 0 && a.party == 0);
 }
 
 /* Of two refusals that apply the first is answered, alone, and the output stays as it was. */
@@ -285,25 +290,25 @@ static void two_refusals(void) {
     memset(before, 7, 14);
     memcpy(out, before, 14);
     sharing_scheme s = sharing_check(5, 1, 0, counts, 1);
-    EXPECT(s.refusal == SHARING_REFUSED_ABSENT_OR_COLLUDING && s.block == 0 && s.rows == 0);
+    EXPECT(s.refusal == 2 && s.block == 0 && s.rows == 0);
     sharing_answer a = sharing_split(5, 1, 2, counts, 2, message, 5, keys, 5, out, 14);
-    EXPECT(a.refusal == SHARING_REFUSED_KEYS_LENGTH && a.value == 0 && memcmp(out, before, 14) == 0);
+    EXPECT(a.refusal == 8 && a.value == 0 && memcmp(out, before, 14) == 0);
     a = sharing_prefix(5, 1, 2, counts, 2, 5, 3, shares, 2);
-    EXPECT(a.refusal == SHARING_REFUSED_READERS && a.value == 0);
+    EXPECT(a.refusal == 6 && a.value == 0);
     sharing_basis_answer basis = sharing_basis(5, 1, 2, counts, 2, falling, 3);
-    EXPECT(basis.refusal == SHARING_REFUSED_READERS && basis.weights[0] == 0);
+    EXPECT(basis.refusal == 6 && basis.weights[0] == 0);
     a = sharing_reconstruct(5, 1, 2, counts, 2, 5, falling, 4, shares, 11, out, 5);
-    EXPECT(a.refusal == SHARING_REFUSED_PARTY_NUMBERS && a.value == 0 && memcmp(out, before, 14) == 0);
+    EXPECT(a.refusal == 7 && a.value == 0 && memcmp(out, before, 14) == 0);
     a = sharing_reconstruct(5, 1, 2, counts, 2, 5, four, 4, shares, 11, out, 4);
-    EXPECT(a.refusal == SHARING_REFUSED_SHARE_LENGTH && a.value == 0 && memcmp(out, before, 14) == 0);
+    EXPECT(a.refusal == 9 && a.value == 0 && memcmp(out, before, 14) == 0);
     a = sharing_reconstruct_range(5, 1, 2, counts, 2, 5, 4, 2, falling, 4, shares, 12, out, 2);
-    EXPECT(a.refusal == SHARING_REFUSED_PARTY_NUMBERS && a.value == 0 && memcmp(out, before, 14) == 0);
+    EXPECT(a.refusal == 7 && a.value == 0 && memcmp(out, before, 14) == 0);
     a = sharing_split_padded(5, 1, 2, counts, 2, message, 5, keys, 5, out, 14);
-    EXPECT(a.refusal == SHARING_REFUSED_KEYS_LENGTH && a.value == 0 && memcmp(out, before, 14) == 0);
+    EXPECT(a.refusal == 8 && a.value == 0 && memcmp(out, before, 14) == 0);
     a = sharing_prefix_padded(5, 1, 2, counts, 2, 3, shares, 2);
-    EXPECT(a.refusal == SHARING_REFUSED_READERS && a.value == 0);
+    EXPECT(a.refusal == 6 && a.value == 0);
     sharing_padded_answer p = sharing_reconstruct_padded(5, 1, 2, counts, 2, four, 4, shares, 12, out, 5);
-    EXPECT(p.refusal == SHARING_REFUSED_OUT_LENGTH && p.used == 0 && p.length == 0 && memcmp(out, before, 14) == 0);
+    EXPECT(p.refusal == 10 && p.used == 0 && p.length == 0 && memcmp(out, before, 14) == 0);
 }
 
 /* Of two blocks of 6 bytes, from three parties: the places 4 and 5 stand in the second and the third row taken. */
@@ -312,9 +317,9 @@ static void ranges_by_default(const uint8_t *three, const uint8_t *prefixes, con
     sharing_answer a = sharing_reconstruct_range_default(12, 12, 0, three, 3, prefixes, 36, out, 0);
     EXPECT(a.refusal == 0 && a.value == 0 && out[0] == 7);
     a = sharing_reconstruct_range_default(12, 10, 2, three, 3, prefixes, 36, out, 3);
-    EXPECT(a.refusal == SHARING_REFUSED_OUT_LENGTH && a.value == 0 && out[0] == 7);
+    EXPECT(a.refusal == 10 && a.value == 0 && out[0] == 7);
     a = sharing_reconstruct_range_default(12, SIZE_MAX, 2, three, 3, prefixes, 36, out, 2);
-    EXPECT(a.refusal == SHARING_REFUSED_RANGE && a.value == 0 && out[0] == 7);
+    EXPECT(a.refusal == 15 && a.value == 0 && out[0] == 7);
     a = sharing_reconstruct_range_default(12, 10, 2, three, 3, prefixes, 36, out, 2);
     EXPECT(a.refusal == 0 && a.value == 18 && memcmp(out, text + 10, 2) == 0 && out[2] == 7);
 }
@@ -336,7 +341,7 @@ static void default_scheme(void) {
     ranges_by_default(three, prefixes, text);
     EXPECT(sharing_basis_default(three, 3).refusal == 0);
     sharing_basis_answer refused = sharing_basis_default(equal, 3);
-    EXPECT(refused.refusal == SHARING_REFUSED_PARTY_NUMBERS && refused.weights[0] == 0);
+    EXPECT(refused.refusal == 7 && refused.weights[0] == 0);
 }
 
 /* Twelve bytes fill two blocks, and make three when they are padded. */
@@ -364,17 +369,15 @@ static void rebuilding_by_default(void) {
         memset(before, 7, 12);
         memcpy(out, before, 12);
         sharing_rebuild_answer a = sharing_rebuild_default(all, 5, wrong, 60, 2, wrong, 12, out, 12);
-        EXPECT(a.refusal == SHARING_REFUSED_DISAGREEING && a.differing == 0 && a.party == all[place]);
-        EXPECT(memcmp(out, before, 12) == 0);
+        EXPECT(a.refusal == 18 && a.differing == 0 && a.party == all[place] && memcmp(out, before, 12) == 0);
         a = sharing_rebuild_default(all, 4, wrong, 48, 5, wrong, 0, out, 12);
-        EXPECT(place == 4 || (a.refusal == SHARING_REFUSED_DISAGREEING && a.differing == 0 && a.party == 0));
-        EXPECT(place == 4 || memcmp(out, before, 12) == 0);
+        EXPECT(place == 4 || (a.refusal == 18 && a.differing == 0 && a.party == 0 && memcmp(out, before, 12) == 0));
         EXPECT(place != 4 || (a.refusal == 0 && a.differing == 0 && memcmp(out, of_all + 48, 12) == 0));
         a = sharing_rebuild_default(all, 3, wrong, 36, 4, of_all + 36, 12, out, 12);
         EXPECT(a.refusal == 0 && a.party == 0 && (place < 3) == (a.differing > 0));
     }
     sharing_rebuild_answer a = sharing_rebuild_default(all, 2, of_all, 24, 5, text, 0, out, 12);
-    EXPECT(a.refusal == SHARING_REFUSED_TOO_FEW_SHARES && a.differing == 0 && a.party == 0);
+    EXPECT(a.refusal == 17 && a.differing == 0 && a.party == 0);
 }
 
 /* Two blocks take 24 bytes of the pool, the three of the padded message the next 36, and then none is left. */
@@ -387,15 +390,15 @@ static void pools_by_default(void) {
     a = sharing_split_default(text, 12, bytes, 24, plain, 60);
     EXPECT(a.refusal == 0 && memcmp(out, plain, 60) == 0);
     a = sharing_split_padded_from_pool_default(&pool, text, 12, bytes, 60, out, 89);
-    EXPECT(a.refusal == SHARING_REFUSED_OUT_LENGTH && a.value == 0 && pool.position == 24 && memcmp(out, plain, 60) == 0);
+    EXPECT(a.refusal == 10 && a.value == 0 && pool.position == 24 && memcmp(out, plain, 60) == 0);
     a = sharing_split_padded_from_pool_default(&pool, text, 12, bytes, 60, out, 90);
     EXPECT(a.refusal == 0 && a.value == 18 && pool.length == 60 && pool.position == 60);
     a = sharing_split_padded_default(text, 12, bytes + 24, 36, plain, 90);
     EXPECT(a.refusal == 0 && memcmp(out, plain, 90) == 0);
     a = sharing_split_from_pool_default(&pool, text, 12, bytes, 60, out, 60);
-    EXPECT(a.refusal == SHARING_REFUSED_POOL && a.value == 0 && pool.position == 60 && memcmp(out, plain, 90) == 0);
+    EXPECT(a.refusal == 16 && a.value == 0 && pool.position == 60 && memcmp(out, plain, 90) == 0);
     a = sharing_split_padded_from_pool_default(&pool, text, 12, bytes, 59, out, 90);
-    EXPECT(a.refusal == SHARING_REFUSED_POOL && a.value == 0 && pool.position == 60 && memcmp(out, plain, 90) == 0);
+    EXPECT(a.refusal == 16 && a.value == 0 && pool.position == 60 && memcmp(out, plain, 90) == 0);
 }
 
 /*
@@ -452,13 +455,10 @@ static void archives(void) {
 static void refused_archives(void) {
     static size_t many[4097];
     const struct { size_t contents, lengths, out, refusal; } writes[] = {
-        {6, 3, 19, SHARING_REFUSED_OUT_LENGTH}, {5, 3, 19, SHARING_REFUSED_ARCHIVE_ENTRIES},
-        {6, 2, 20, SHARING_REFUSED_ARCHIVE_ENTRIES}, {5, 4097, 3, SHARING_REFUSED_ARCHIVE_COUNT},
+        {6, 3, 19, 10}, {5, 3, 19, 13}, {6, 2, 20, 13}, {5, 4097, 3, 12},
     };
     const struct { size_t file, number, refusal; } reads[] = {
-        {20, 3, SHARING_REFUSED_ENTRY_NUMBER}, {19, 3, SHARING_REFUSED_ARCHIVE_ENTRIES},
-        {19, 1, SHARING_REFUSED_ARCHIVE_ENTRIES}, {13, 4, SHARING_REFUSED_ARCHIVE_COUNT},
-        {1, 0, SHARING_REFUSED_ARCHIVE_COUNT},
+        {20, 3, 14}, {19, 3, 13}, {19, 1, 13}, {13, 4, 12}, {1, 0, 12},
     };
     uint8_t out[20], before[20];
     memset(before, 7, 20);
@@ -472,8 +472,7 @@ static void refused_archives(void) {
         sharing_archive_entry_answer e = sharing_archive_entry(archive, reads[i].file, reads[i].number);
         EXPECT(e.refusal == reads[i].refusal && e.offset == 0 && e.length == 0);
         sharing_answer a = sharing_archive_count(archive, reads[i].file);
-        EXPECT(a.refusal == (reads[i].refusal == SHARING_REFUSED_ENTRY_NUMBER ? 0 : reads[i].refusal));
-        EXPECT(a.value == (a.refusal == 0 ? 3 : 0));
+        EXPECT(a.refusal == (reads[i].refusal == 14 ? 0 : reads[i].refusal) && a.value == (a.refusal == 0 ? 3 : 0));
     }
 }
 
@@ -529,6 +528,7 @@ static void longest_message(void) {
 
 int main(void) {
     sizes();
+    names_of_refusals();
     arithmetic();
     schemes();
     message_lengths();

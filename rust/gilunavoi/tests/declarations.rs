@@ -475,6 +475,10 @@ const REFUSALS: [(&str, u64); 19] = [
 #[test]
 fn refusals_are_all_named() {
     let refusals = declared_in_c(HEADER).refusals;
+    let numbers: Vec<u64> = refusals.iter().map(|(_, number)| *number).collect();
+    assert_eq!(numbers, (0..=18).collect::<Vec<u64>>());
+    assert_eq!(refusals[0].0, "SHARING_ACCEPTED");
+    assert!(refusals[1..].iter().all(|(name, _)| name.starts_with("SHARING_REFUSED_")), "{refusals:?}");
     let named: Vec<(&str, u64)> = refusals.iter().map(|(name, number)| (name.as_str(), *number)).collect();
     assert_eq!(named, REFUSALS);
     // The table in words, in the comment: a number of up to two places, and two spaces.
