@@ -194,16 +194,13 @@ fn rebuilding_shares() {
         let answer = rebuilt_without_it(&mut random, form, length, many);
         let same_in_both = if form == Form::Padded { 1 } else { 2 };
         short += (length > same_in_both && length <= 10 && many > 3) as usize;
+        assert!(answer.is_ok() || length > same_in_both, "{length} bytes, {form:?}, {many} shares: {answer:?}");
         match answer {
             Ok(differing) if length <= same_in_both => assert_eq!(differing, 0),
             Ok(_) if many == 3 => {}
             Ok(_) if length <= 10 => agreed += 1,
-            Err(NotRebuilt { refusal: 18, party: None }) if many > 3 && length > same_in_both => {}
-            Err(NotRebuilt { refusal: 18, party: Some(_) })
-                if many == 5 && (same_in_both + 1..=10).contains(&length) =>
-            {
-                named += 1
-            }
+            Err(NotRebuilt { refusal: 18, party: None }) if many > 3 => {}
+            Err(NotRebuilt { refusal: 18, party: Some(_) }) if many == 5 && length <= 10 => named += 1,
             _ => panic!("{length} bytes, {form:?}, {many} shares: {answer:?}"),
         }
     }
