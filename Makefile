@@ -9,7 +9,7 @@ VERSION := $(shell cat VERSION)
 CARGO = cargo
 RT = rt
 
-program = target/sharing
+program = rust/target/release/sharing
 proved = target/staticlib/libexports.a target/staticlib/libarchive_exports.a
 library = target/libsharing.a
 package = target/gilunavoi_$(VERSION)_amd64.deb
@@ -38,10 +38,10 @@ $(library): tools/library $(proved)
 	tools/library
 	@touch $@
 
-# cargo knows itself what is to be built.
+# cargo knows itself what is to be built. The program goes to where cargo puts it when no machine is named.
 program: $(library)
 	$(CARGO) build --release $(cargo_words)
-	@install -m 755 rust/target/$(host)/release/sharing $(program)
+	@install -D -m 755 rust/target/$(host)/release/sharing $(program)
 
 demo: $(library)
 	@$(CARGO) run --quiet --release $(cargo_words) --example demo
@@ -114,7 +114,7 @@ version:
 # The proofs stay, since they take minutes.
 clean:
 	rm -rf rust/target
-	rm -f $(program) $(library) target/gilunavoi_*.deb
+	rm -f $(library) target/gilunavoi_*.deb
 
 distclean: clean
 	rm -rf target
