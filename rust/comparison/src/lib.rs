@@ -7,3 +7,9 @@ pub mod compare;
 pub mod random;
 pub mod reference;
 pub mod stored;
+
+/// The README's examples are compiled and run with the tests. They stand here and not in the package that they are about, which
+/// cargo can pack away from the page.
+#[cfg(doctest)]
+#[doc = include_str!("../../../README.md")]
+struct Readme;

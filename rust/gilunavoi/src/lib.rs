@@ -78,8 +78,3 @@ mod scheme;
 pub use pool::Pool;
 pub use refusal::Refusal;
 pub use scheme::{Basis, Form, Lengths, NotRebuilt, Opened, ParseSchemeError, Rebuilt, Scheme};
-
-/// The README's examples are compiled and run with the tests.
-#[cfg(doctest)]
-#[doc = include_str!("../README.md")]
-struct Readme;
