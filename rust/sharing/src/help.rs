@@ -184,8 +184,8 @@ and kept.
 
 Without it the file KEYS has the keys, as many as are needed: where its length is another, the one that is needed
 is said. Draw them evenly at random, keep them as secret as the message, use each key file for one message only,
-and destroy it afterwards. One file as MESSAGE and as KEYS is not accepted, be it by links,
-and neither are the keys of the pool as MESSAGE.
+and destroy it afterwards. One file as MESSAGE and as KEYS is not accepted, be it by links, and neither are the keys
+of the pool as MESSAGE.
 "
     )
 }
