@@ -1,7 +1,7 @@
-// The C boundary. A slice is a pointer and a length; an answer is a struct whose `refusal` is 0 when
-// the call is accepted. Those on padded messages stand in `padded`, those on a pool of keys in `pool`, the opener for
-// a range in `range`, the rebuilding of a share in `rebuild`, the check with the number tried in `tried`, the lengths of a
-// message in `message_lengths`.
+// The C boundary, as a library: an answer is a struct whose `refusal` is 0 when the call is accepted. A library exports
+// nothing to C, so `exports_c` has an export for each public function here, of the same name and the same contract. Those on
+// padded messages stand in `padded`, those on a pool of keys in `pool`, the opener for a range in `range`, the rebuilding of
+// a share in `rebuild`, the check with the number tried in `tried`, the lengths of a message in `message_lengths`.
 #![tactic(auto)]
 
 ghost use Rattle.std.specs.Prelude.{◌≡◌, length};
@@ -18,12 +18,12 @@ use interpolation::SIDE;
 use scheme::SchemeAnswer;
 use sharing::Answer;
 
-mod message_lengths;
-mod padded;
-mod pool;
-mod range;
-mod rebuild;
-mod tried;
+pub mod message_lengths;
+pub mod padded;
+pub mod pool;
+pub mod range;
+pub mod rebuild;
+pub mod tried;
 
 #[repr(C)]
 #[derive(Clone, Copy)]
@@ -58,29 +58,25 @@ pub struct Gf256InverseAnswer {
     pub inverse: u64,
 }
 
-#[unsafe(no_mangle)]
-pub extern "C" fn gf256_add(a: u8, b: u8) -> u8
+pub fn gf256_add(a: u8, b: u8) -> u8
     ensures { result ≡ a ⊕ b }
 {
     gf256::add(a, b)
 }
 
-#[unsafe(no_mangle)]
-pub extern "C" fn gf256_mul(a: u8, b: u8) -> u8
+pub fn gf256_mul(a: u8, b: u8) -> u8
     ensures { result ≡ a ⊗ b }
 {
     gf256::mul(a, b)
 }
 
-#[unsafe(no_mangle)]
-pub extern "C" fn gf256_mul_by_shifting(a: u8, b: u8) -> u8
+pub fn gf256_mul_by_shifting(a: u8, b: u8) -> u8
     ensures { result ≡ a ⊗ b }
 {
     gf256::mul_by_shifting(a, b)
 }
 
-#[unsafe(no_mangle)]
-pub extern "C" fn gf256_inverse(a: u8) -> Gf256InverseAnswer
+pub fn gf256_inverse(a: u8) -> Gf256InverseAnswer
     ensures { inverse_fields result ≡ inverted_fields (inverse a) }
 {
     match gf256::inverse(a) {
@@ -95,15 +91,13 @@ pub extern "C" fn gf256_inverse(a: u8) -> Gf256InverseAnswer
     }
 }
 
-#[unsafe(no_mangle)]
-pub extern "C" fn sharing_check(n: u8, r: u8, z: u8, counts: &[u8]) -> SharingScheme
+pub fn sharing_check(n: u8, r: u8, z: u8, counts: &[u8]) -> SharingScheme
     ensures { scheme_fields result ≡ checked_fields (checked n r z counts.now) }
 {
     scheme_fields(scheme::check(n, r, z, counts))
 }
 
-#[unsafe(no_mangle)]
-pub extern "C" fn sharing_check_default() -> SharingScheme
+pub fn sharing_check_default() -> SharingScheme
     ensures { scheme_fields result ≡ checked_fields (checked default_n default_r default_z default_counts) }
 {
     scheme_fields(scheme::check_default())
@@ -141,8 +135,7 @@ pub(crate) fn fields(answer: Answer) -> SharingAnswer
     }
 }
 
-#[unsafe(no_mangle)]
-pub extern "C" fn sharing_split(
+pub fn sharing_split(
     n: u8,
     r: u8,
     z: u8,
@@ -156,20 +149,14 @@ pub extern "C" fn sharing_split(
     fields(sharing::split(n, r, z, counts, message, keys, out))
 }
 
-#[unsafe(no_mangle)]
-pub extern "C" fn sharing_split_default(
-    message: &[u8],
-    keys: &[u8],
-    out: &mut [u8],
-) -> SharingAnswer
+pub fn sharing_split_default(message: &[u8], keys: &[u8], out: &mut [u8]) -> SharingAnswer
     ensures { SplitFields default_parameters message.now keys.now out.old result out.new }
 {
     fields(sharing::split_default(message, keys, out))
 }
 
 // The prefix is the first `value` bytes of the share.
-#[unsafe(no_mangle)]
-pub extern "C" fn sharing_prefix(
+pub fn sharing_prefix(
     n: u8,
     r: u8,
     z: u8,
@@ -183,19 +170,13 @@ pub extern "C" fn sharing_prefix(
     fields(sharing::prefix_length(n, r, z, counts, message_length, d, share))
 }
 
-#[unsafe(no_mangle)]
-pub extern "C" fn sharing_prefix_default(
-    message_length: usize,
-    d: usize,
-    share: &[u8],
-) -> SharingAnswer
+pub fn sharing_prefix_default(message_length: usize, d: usize, share: &[u8]) -> SharingAnswer
     ensures { answer_fields result ≡ value_fields (prefix_answer default_parameters message_length d (length share.now)) }
 {
     fields(sharing::prefix_length_default(message_length, d, share))
 }
 
-#[unsafe(no_mangle)]
-pub extern "C" fn sharing_basis(n: u8, r: u8, z: u8, counts: &[u8], parties: &[u8]) -> SharingBasis
+pub fn sharing_basis(n: u8, r: u8, z: u8, counts: &[u8], parties: &[u8]) -> SharingBasis
     ensures { BasisFields (parameters n r z counts.now) parties.now result }
 {
     let size = fields(sharing::basis_size(n, r, z, counts, parties));
@@ -206,8 +187,7 @@ pub extern "C" fn sharing_basis(n: u8, r: u8, z: u8, counts: &[u8], parties: &[u
     }
 }
 
-#[unsafe(no_mangle)]
-pub extern "C" fn sharing_basis_default(parties: &[u8]) -> SharingBasis
+pub fn sharing_basis_default(parties: &[u8]) -> SharingBasis
     ensures { BasisFields default_parameters parties.now result }
 {
     let size = fields(sharing::basis_size_default(parties));
@@ -231,8 +211,7 @@ fn in_one_row(table: [[u8; SIDE]; SIDE]) -> [u8; WEIGHTS]
     weights
 }
 
-#[unsafe(no_mangle)]
-pub extern "C" fn sharing_reconstruct(
+pub fn sharing_reconstruct(
     n: u8,
     r: u8,
     z: u8,
@@ -247,8 +226,7 @@ pub extern "C" fn sharing_reconstruct(
     fields(sharing::reconstruct(n, r, z, counts, message_length, parties, prefixes, out))
 }
 
-#[unsafe(no_mangle)]
-pub extern "C" fn sharing_reconstruct_default(
+pub fn sharing_reconstruct_default(
     message_length: usize,
     parties: &[u8],
     prefixes: &[u8],

@@ -18,28 +18,19 @@ pub struct SharingLengths {
     pub opened: u64,
 }
 
-#[unsafe(no_mangle)]
-pub extern "C" fn sharing_lengths(
-    n: u8,
-    r: u8,
-    z: u8,
-    counts: &[u8],
-    message_length: usize,
-) -> SharingLengths
+pub fn sharing_lengths(n: u8, r: u8, z: u8, counts: &[u8], message_length: usize) -> SharingLengths
     ensures { lengths_fields result ≡ told_fields (lengths_answer (parameters n r z counts.now) message_length) }
 {
     lengths_fields(sharing::lengths(n, r, z, counts, message_length))
 }
 
-#[unsafe(no_mangle)]
-pub extern "C" fn sharing_lengths_default(message_length: usize) -> SharingLengths
+pub fn sharing_lengths_default(message_length: usize) -> SharingLengths
     ensures { lengths_fields result ≡ told_fields (lengths_answer default_parameters message_length) }
 {
     lengths_fields(sharing::lengths_default(message_length))
 }
 
-#[unsafe(no_mangle)]
-pub extern "C" fn sharing_lengths_padded(
+pub fn sharing_lengths_padded(
     n: u8,
     r: u8,
     z: u8,
@@ -51,8 +42,7 @@ pub extern "C" fn sharing_lengths_padded(
     lengths_fields(sharing::lengths_padded(n, r, z, counts, message_length))
 }
 
-#[unsafe(no_mangle)]
-pub extern "C" fn sharing_lengths_padded_default(message_length: usize) -> SharingLengths
+pub fn sharing_lengths_padded_default(message_length: usize) -> SharingLengths
     ensures { lengths_fields result ≡ told_fields (lengths_padded_answer default_parameters message_length) }
 {
     lengths_fields(sharing::lengths_padded_default(message_length))

@@ -17,8 +17,7 @@ pub struct SharingPaddedAnswer {
     pub length: u64,
 }
 
-#[unsafe(no_mangle)]
-pub extern "C" fn sharing_split_padded(
+pub fn sharing_split_padded(
     n: u8,
     r: u8,
     z: u8,
@@ -32,19 +31,13 @@ pub extern "C" fn sharing_split_padded(
     fields(sharing::split_padded(n, r, z, counts, message, keys, out))
 }
 
-#[unsafe(no_mangle)]
-pub extern "C" fn sharing_split_padded_default(
-    message: &[u8],
-    keys: &[u8],
-    out: &mut [u8],
-) -> SharingAnswer
+pub fn sharing_split_padded_default(message: &[u8], keys: &[u8], out: &mut [u8]) -> SharingAnswer
     ensures { SplitPaddedFields default_parameters message.now keys.now out.old result out.new }
 {
     fields(sharing::split_padded_default(message, keys, out))
 }
 
-#[unsafe(no_mangle)]
-pub extern "C" fn sharing_prefix_padded(
+pub fn sharing_prefix_padded(
     n: u8,
     r: u8,
     z: u8,
@@ -57,8 +50,7 @@ pub extern "C" fn sharing_prefix_padded(
     fields(sharing::prefix_padded_length(n, r, z, counts, d, share))
 }
 
-#[unsafe(no_mangle)]
-pub extern "C" fn sharing_prefix_padded_default(d: usize, share: &[u8]) -> SharingAnswer
+pub fn sharing_prefix_padded_default(d: usize, share: &[u8]) -> SharingAnswer
     ensures { answer_fields result ≡ value_fields (prefix_padded_answer default_parameters d (length share.now)) }
 {
     fields(sharing::prefix_padded_length_default(d, share))
@@ -81,8 +73,7 @@ fn padded_fields(answer: PaddedAnswer) -> SharingPaddedAnswer
     }
 }
 
-#[unsafe(no_mangle)]
-pub extern "C" fn sharing_reconstruct_padded(
+pub fn sharing_reconstruct_padded(
     n: u8,
     r: u8,
     z: u8,
@@ -96,8 +87,7 @@ pub extern "C" fn sharing_reconstruct_padded(
     padded_fields(sharing::reconstruct_padded(n, r, z, counts, parties, prefixes, out))
 }
 
-#[unsafe(no_mangle)]
-pub extern "C" fn sharing_reconstruct_padded_default(
+pub fn sharing_reconstruct_padded_default(
     parties: &[u8],
     prefixes: &[u8],
     out: &mut [u8],

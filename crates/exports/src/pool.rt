@@ -7,8 +7,7 @@ ghost use Rattle.exports.specs.Fields.{PoolSplitFields};
 use crate::{SharingAnswer, fields};
 use sharing::KeyPool;
 
-#[unsafe(no_mangle)]
-pub extern "C" fn sharing_split_from_pool(
+pub fn sharing_split_from_pool(
     pool: &mut KeyPool,
     n: u8,
     r: u8,
@@ -23,8 +22,7 @@ pub extern "C" fn sharing_split_from_pool(
     fields(sharing::split_from_pool(pool, n, r, z, counts, message, bytes, out))
 }
 
-#[unsafe(no_mangle)]
-pub extern "C" fn sharing_split_from_pool_default(
+pub fn sharing_split_from_pool_default(
     pool: &mut KeyPool,
     message: &[u8],
     bytes: &[u8],
@@ -35,8 +33,7 @@ pub extern "C" fn sharing_split_from_pool_default(
     fields(sharing::split_from_pool_default(pool, message, bytes, out))
 }
 
-#[unsafe(no_mangle)]
-pub extern "C" fn sharing_split_padded_from_pool(
+pub fn sharing_split_padded_from_pool(
     pool: &mut KeyPool,
     n: u8,
     r: u8,
@@ -51,8 +48,7 @@ pub extern "C" fn sharing_split_padded_from_pool(
     fields(sharing::split_padded_from_pool(pool, n, r, z, counts, message, bytes, out))
 }
 
-#[unsafe(no_mangle)]
-pub extern "C" fn sharing_split_padded_from_pool_default(
+pub fn sharing_split_padded_from_pool_default(
     pool: &mut KeyPool,
     message: &[u8],
     bytes: &[u8],

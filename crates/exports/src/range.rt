@@ -4,8 +4,7 @@ ghost use Rattle.exports.specs.Fields.{RangeFields};
 
 use crate::{SharingAnswer, fields};
 
-#[unsafe(no_mangle)]
-pub extern "C" fn sharing_reconstruct_range(
+pub fn sharing_reconstruct_range(
     n: u8,
     r: u8,
     z: u8,
@@ -33,8 +32,7 @@ pub extern "C" fn sharing_reconstruct_range(
     ))
 }
 
-#[unsafe(no_mangle)]
-pub extern "C" fn sharing_reconstruct_range_default(
+pub fn sharing_reconstruct_range_default(
     message_length: usize,
     start: usize,
     range_length: usize,

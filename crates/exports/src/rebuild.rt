@@ -15,8 +15,7 @@ pub struct SharingRebuildAnswer {
     pub party: u64,
 }
 
-#[unsafe(no_mangle)]
-pub extern "C" fn sharing_rebuild(
+pub fn sharing_rebuild(
     n: u8,
     r: u8,
     z: u8,
@@ -32,8 +31,7 @@ pub extern "C" fn sharing_rebuild(
     rebuild_fields(sharing::rebuild(n, r, z, counts, parties, shares, party, held, out))
 }
 
-#[unsafe(no_mangle)]
-pub extern "C" fn sharing_rebuild_default(
+pub fn sharing_rebuild_default(
     parties: &[u8],
     shares: &[u8],
     party: u8,

@@ -16,15 +16,13 @@ pub struct SharingTriedScheme {
     pub tried: u64,
 }
 
-#[unsafe(no_mangle)]
-pub extern "C" fn sharing_check_tried(n: u8, r: u8, z: u8, counts: &[u8]) -> SharingTriedScheme
+pub fn sharing_check_tried(n: u8, r: u8, z: u8, counts: &[u8]) -> SharingTriedScheme
     ensures { tried_scheme_fields result ≡ checked_tried_fields (checked_tried n r z counts.now) }
 {
     tried_fields(scheme::check_tried(n, r, z, counts))
 }
 
-#[unsafe(no_mangle)]
-pub extern "C" fn sharing_check_tried_default() -> SharingTriedScheme
+pub fn sharing_check_tried_default() -> SharingTriedScheme
     ensures { tried_scheme_fields result ≡ checked_tried_fields (checked_tried default_n default_r default_z default_counts) }
 {
     tried_fields(scheme::check_tried_default())

@@ -1,0 +1,63 @@
+// The exports of the splits that take their keys from a pool. The record is lent by a pointer, and comes first.
+ghost use Rattle.staircase.specs.Parameters.{parameters, default_parameters};
+ghost use Rattle.key_pool.specs.declared.Form.TheVariants.{Earlier, Padded};
+ghost use Rattle.exports.specs.Fields.{PoolSplitFields};
+
+use exports::SharingAnswer;
+use key_pool::KeyPool;
+
+#[unsafe(no_mangle)]
+pub extern "C" fn sharing_split_from_pool(
+    pool: &mut KeyPool,
+    n: u8,
+    r: u8,
+    z: u8,
+    counts: &[u8],
+    message: &[u8],
+    bytes: &[u8],
+    out: &mut [u8],
+) -> SharingAnswer
+    ensures { PoolSplitFields Earlier (parameters n r z counts.now) message.now bytes.now pool.old out.old result out.new pool.new }
+{
+    exports::pool::sharing_split_from_pool(pool, n, r, z, counts, message, bytes, out)
+}
+
+#[unsafe(no_mangle)]
+pub extern "C" fn sharing_split_from_pool_default(
+    pool: &mut KeyPool,
+    message: &[u8],
+    bytes: &[u8],
+    out: &mut [u8],
+) -> SharingAnswer
+    ensures { PoolSplitFields Earlier default_parameters message.now bytes.now pool.old out.old result out.new pool.new }
+{
+    exports::pool::sharing_split_from_pool_default(pool, message, bytes, out)
+}
+
+#[unsafe(no_mangle)]
+pub extern "C" fn sharing_split_padded_from_pool(
+    pool: &mut KeyPool,
+    n: u8,
+    r: u8,
+    z: u8,
+    counts: &[u8],
+    message: &[u8],
+    bytes: &[u8],
+    out: &mut [u8],
+) -> SharingAnswer
+    ensures { PoolSplitFields Padded (parameters n r z counts.now) message.now bytes.now pool.old out.old result out.new pool.new }
+{
+    exports::pool::sharing_split_padded_from_pool(pool, n, r, z, counts, message, bytes, out)
+}
+
+#[unsafe(no_mangle)]
+pub extern "C" fn sharing_split_padded_from_pool_default(
+    pool: &mut KeyPool,
+    message: &[u8],
+    bytes: &[u8],
+    out: &mut [u8],
+) -> SharingAnswer
+    ensures { PoolSplitFields Padded default_parameters message.now bytes.now pool.old out.old result out.new pool.new }
+{
+    exports::pool::sharing_split_padded_from_pool_default(pool, message, bytes, out)
+}

@@ -1,0 +1,55 @@
+// The exports of the opener for a range.
+ghost use Rattle.staircase.specs.Parameters.{parameters, default_parameters};
+ghost use Rattle.exports.specs.Fields.{RangeFields};
+
+use exports::SharingAnswer;
+
+#[unsafe(no_mangle)]
+pub extern "C" fn sharing_reconstruct_range(
+    n: u8,
+    r: u8,
+    z: u8,
+    counts: &[u8],
+    message_length: usize,
+    start: usize,
+    range_length: usize,
+    parties: &[u8],
+    prefixes: &[u8],
+    out: &mut [u8],
+) -> SharingAnswer
+    ensures { RangeFields (parameters n r z counts.now) message_length start range_length parties.now prefixes.now out.old result out.new }
+{
+    exports::range::sharing_reconstruct_range(
+        n,
+        r,
+        z,
+        counts,
+        message_length,
+        start,
+        range_length,
+        parties,
+        prefixes,
+        out,
+    )
+}
+
+#[unsafe(no_mangle)]
+pub extern "C" fn sharing_reconstruct_range_default(
+    message_length: usize,
+    start: usize,
+    range_length: usize,
+    parties: &[u8],
+    prefixes: &[u8],
+    out: &mut [u8],
+) -> SharingAnswer
+    ensures { RangeFields default_parameters message_length start range_length parties.now prefixes.now out.old result out.new }
+{
+    exports::range::sharing_reconstruct_range_default(
+        message_length,
+        start,
+        range_length,
+        parties,
+        prefixes,
+        out,
+    )
+}
