@@ -50,7 +50,7 @@ fn folder() -> Result<PathBuf, String> {
     if built.join(LIBRARY).exists() {
         return Ok(built);
     }
-    if built.join("staticlib/libexports.a").exists() && built.join("staticlib/libarchive_exports.a").exists() {
+    if built.join("staticlib/libexports_c.a").exists() && built.join("staticlib/libarchive_exports.a").exists() {
         return Err(format!(
             "the proved libraries are built, but not {LIBRARY}: run `make` in the repository, or `tools/library`; or name \
              the folder of another one in SHARING_LIB_DIR"
