@@ -1,10 +1,11 @@
 // Interpolation over bytes: the running value of a row, the Lagrange basis, and the weights of an opening.
 #![tactic(auto)]
 
-ghost use Rattle.std.specs.Prelude.{◌≡◌, true, ℕ, ◌+◌, ◌<◌, ◌≤◌, length, get_or, drop};
+ghost use Rattle.std.specs.Prelude.{◌≡◌, ◌≢◌, true, ℕ, ◌+◌, ◌<◌, ◌≤◌, length, get_or, drop};
 ghost use Rattle.lists.specs.Each as each;
 ghost use Rattle.lists.specs.Table.{tabulate};
 ghost use Rattle.gf256.specs.Lanes.{lanes};
+ghost use Rattle.gf256.specs.declared.InverseAnswer.TheVariants.{NoInverse};
 ghost use Rattle.interpolation.specs.Polynomial as polynomial;
 ghost use Rattle.interpolation.specs.Interpolation.{side, weight, basis_table};
 ghost use Rattle.interpolation.specs.RowValue.{next_each};
@@ -146,16 +147,16 @@ fn basis_row(product: [u8; SIDE + 1], points: &[u8], i: usize) -> [u8; SIDE]
     }
     // The points are distinct, so the value is not 0.
     let InverseAnswer::Inverse(factor) = gf256::inverse(value) else {
-        return not_reached();
+        return not_reached(InverseAnswer::NoInverse);
     };
     lowest(gf256::lanes::scale_each(quotient, factor))
 }
 
-// Stands where the code never comes: nobody can show what it requires, so whoever calls it has to prove
-// that the place is not reached. Nothing comes back.
-fn not_reached() -> [u8; SIDE]
-    requires { ⊥ }
-    ensures { ⊥ }
+// Stands where the code never comes. It is handed that there is no inverse, and requires that there is one: nobody can
+// show that, so whoever calls it has to prove that the place is not reached. Nothing comes back.
+fn not_reached(there: InverseAnswer) -> [u8; SIDE]
+    requires { there ≢ NoInverse }
+    ensures { there ≢ NoInverse }
 {
     [0u8; SIDE]
 }

@@ -1,7 +1,7 @@
 -- `interpolation::basis_row` meets its contract. The invariant is `Divided`: the quotient's coefficients from degree e on, and the value of these.
 -- The measure is the degree. In the arm without an inverse ⊥ is shown: by `divisors` (proofs/Divisors.antt) the value is not 0.
 -- Assumes nothing.
-use mathlib.Core.Path.{sym, ap, ◌∙◌}
+use mathlib.Core.Path.{refl, sym, ap, ◌∙◌}
 use native.Mathlib.Omega.{arith}
 use borrow.Author.Rules.{rules}
 use Rattle.lists.specs.Each.{Each, Byte}
@@ -39,8 +39,8 @@ basis_row_spec =
     (λ c. search rules)
     (λ c κs.
     let bytes : Each Byte c.args.points.now = each_of Byte c.args.points.now 0 (λ k b. (c.shared_slice_known-2-1.given k).fits) in
-    divided_invertible _ _ c.requires.0.0 c.requires.0.1 c.requires.0.2 bytes c.loop-e-test.false c.loop-e.invariant (sym c.inverse.ensures ∙ c.in_default.is))
-    (λ c. search rules)
+    λ e. divided_invertible _ _ c.requires.0.0 c.requires.0.1 c.requires.0.2 bytes c.loop-e-test.false c.loop-e.invariant (sym c.inverse.ensures ∙ c.in_default.is))
+    (λ c. absurd (c.not_reached.ensures refl))
     (λ c κs. search rules)
     (λ c κs. search rules)
     (λ c.
