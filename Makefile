@@ -10,19 +10,19 @@ CARGO = cargo
 RT = rt
 
 program = rust/target/release/sharing
-proved = target/staticlib/libexports.a target/staticlib/libarchive_exports.a
+proved = target/staticlib/libexports_c.a target/staticlib/libarchive_exports.a
 library = target/libsharing.a
 package = target/gilunavoi_$(VERSION)_amd64.deb
-# What the proofs depend on. The edits of must-fail/ are for the gate alone.
-crates := crates.txt $(shell find crates -type f ! -path '*/must-fail/*')
+# What the proofs depend on. The other folders of a crate are for the gate alone, and out/ has what rt made.
+crates := crates.txt $(shell find crates/*/src crates/*/specs crates/*/proofs -type f)
 # One folder, and this machine, whatever the environment or a configuration of cargo says: the program is taken from there.
 host = $(shell $(CARGO) -vV | sed -n 's/^host: //p')
 cargo_words = --offline --locked --manifest-path rust/Cargo.toml --target-dir rust/target --target $(host)
 
 # The recipes take these from the environment, so that spaces and quotes in them need no care.
-export DESTDIR PREFIX LIBDIR
+export DESTDIR PREFIX LIBDIR RT
 
-# Two proofs at once would write into the same folder.
+# Two proofs at once would wait for one another, and would need the memory of two.
 .NOTPARALLEL:
 .DELETE_ON_ERROR:
 .PHONY: all program demo check bench built places install uninstall deb version clean distclean help
@@ -31,7 +31,7 @@ all: $(library) program
 
 # The proofs take minutes, so they are made only where a library is missing or older than what it is made of.
 target/staticlib/lib%.a: $(crates)
-	$(RT) staticlib $*
+	tools/staticlib $*
 	@touch $@
 
 $(library): tools/library $(proved)
@@ -117,12 +117,12 @@ clean:
 	rm -f $(library) target/gilunavoi_*.deb
 
 distclean: clean
-	rm -rf target
+	rm -rf target crates/*/out
 
 help:
 	@echo 'make             prove the libraries where that is not done, then build library and program'
 	@echo 'make demo        split a letter and open it from several sets of parties'
-	@echo 'make check       the gate: every proof from nothing and all tests, about 20 minutes'
+	@echo 'make check       the gate: every proof, every edit that must fail, and all tests'
 	@echo 'make bench       how fast it is'
 	@echo 'make install     install what is built: PREFIX=$(PREFIX) LIBDIR=$(LIBDIR) DESTDIR=$(DESTDIR)'
 	@echo 'make uninstall   remove it again, with the same three'
