@@ -1,6 +1,7 @@
 mod BlockLength
 mod Multiples
 mod Counts
+mod Numbers
 mod Answers
 mod Refusals
 mod SchemeFacts
