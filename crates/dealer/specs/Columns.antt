@@ -3,7 +3,7 @@
 use Rattle.std.specs.Prelude.{◌≡◌, cond, List, [], ◌∷◌, ◌++◌, ◌⊎◌, ℕ, ◌+◌, ◌*◌, ◌≤◌, ◌<◌, ltb, length, get_or}
 use Rattle.lists.specs.Table.{tabulate, joined}
 use Rattle.interpolation.specs.RowValue.{values_of}
-use Rattle.scheme.specs.declared.Scheme.{Scheme}
+use Rattle.scheme.specs.declared.accepted.Scheme.{Scheme}
 use Rattle.columns.specs.Columns.{strided, flat_columns}
 use Rattle.staircase.specs.Parameters.{parameters_of, point}
 use Rattle.staircase.specs.Coefficients.{origin, key_place, share_byte}

@@ -1,7 +1,7 @@
 -- What the splitter's two forms share: the tests of the slices, and the shares of so many blocks, of which the bytes up to the padding's zeros are given.
 -- Assumes nothing.
 use Rattle.std.specs.Prelude.{◌≡◌, cond, not, List, [], ◌∷◌, ℕ, ◌*◌, eqb, length}
-use Rattle.scheme.specs.declared.Scheme.{Scheme}
+use Rattle.scheme.specs.declared.accepted.Scheme.{Scheme}
 use Rattle.scheme.specs.declared.Answer.{Answer}
 use Rattle.scheme.specs.Outcome.{number_if, first_of, answer, outcome}
 use Rattle.dealer.specs.Columns.{filled_shares}

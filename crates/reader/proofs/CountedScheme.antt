@@ -9,7 +9,7 @@ use native.Mathlib.Omega.{arith}
 use Rattle.lists.specs.Each.{occurs}
 use Rattle.lists.proofs.Each.{occurs-place}
 use Rattle.interpolation.specs.Interpolation.{side}
-use Rattle.scheme.specs.declared.Scheme.{Scheme}
+use Rattle.scheme.specs.declared.accepted.Scheme.{Scheme}
 use Rattle.scheme.specs.Facts.{SchemeFacts, SchemeIs}
 use Rattle.scheme.specs.Limits.{max_block, max_blocks}
 use Rattle.scheme.proofs.Laws.{scheme_own}

@@ -30,7 +30,7 @@ use Rattle.lists.proofs.Tests.{neither}
 use Rattle.lists.proofs.Without.{length_without}
 use Rattle.interpolation.specs.Interpolation.{side}
 use Rattle.interpolation.specs.Opening.{value_weight}
-use Rattle.scheme.specs.declared.Scheme.{Scheme}
+use Rattle.scheme.specs.declared.accepted.Scheme.{Scheme}
 use Rattle.scheme.specs.Facts as facts
 use Rattle.scheme.specs.Limits.{max_block, max_blocks}
 use Rattle.scheme.proofs.Laws.{readers_rise, parties_distinct, parties_few}

@@ -13,7 +13,7 @@ use lib.Seq.{take_all}
 use borrow.Author.Tests.{ne_eqb}
 use Rattle.lists.specs.Each.{occurs}
 use Rattle.lists.proofs.Joined.{last_row}
-use Rattle.scheme.specs.declared.Scheme.{Scheme}
+use Rattle.scheme.specs.declared.accepted.Scheme.{Scheme}
 use Rattle.scheme.specs.Facts.{SchemeIs}
 use Rattle.scheme.specs.Limits.{max_block, max_message}
 use Rattle.scheme.specs.Outcome.{accepted}

@@ -10,7 +10,7 @@ use native.Mathlib.Omega.{arith}
 use lib.ListN.{length, take, drop}
 use borrow.Author.Tests.{ne_eqb, not-false, ltb-false, eqb-true}
 use Rattle.lists.specs.Each.{Each, Byte, occurs}
-use Rattle.scheme.specs.declared.Scheme.{Scheme}
+use Rattle.scheme.specs.declared.accepted.Scheme.{Scheme}
 use Rattle.scheme.specs.Limits.{max_message}
 use Rattle.scheme.specs.Facts.{SchemeIs}
 use Rattle.scheme.specs.Readers.{readers_refused}

@@ -11,7 +11,7 @@ use lib.Dec.{eqb}
 use lib.ListN.{length}
 use Rattle.lists.proofs.Skipped.{without_past}
 use Rattle.interpolation.specs.Interpolation.{side}
-use Rattle.scheme.specs.declared.Scheme.{Scheme}
+use Rattle.scheme.specs.declared.accepted.Scheme.{Scheme}
 use Rattle.scheme.specs.Facts.{SchemeFacts, SchemeIs}
 use Rattle.scheme.specs.Limits.{max_block, max_blocks, max_message}
 use Rattle.scheme.specs.Outcome.{Outcome, accepted, refused, first_of}

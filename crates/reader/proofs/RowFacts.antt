@@ -13,7 +13,7 @@ use Rattle.lists.proofs.Each.{each_tabulate}
 use Rattle.lists.proofs.Joined.{row_room}
 use Rattle.lists.proofs.Table.{length-tabulate, get_or-tabulate}
 use Rattle.interpolation.specs.Interpolation.{side}
-use Rattle.scheme.specs.declared.Scheme.{Scheme}
+use Rattle.scheme.specs.declared.accepted.Scheme.{Scheme}
 use Rattle.staircase.specs.Coefficients.{group_of, count_of, coefficient_at}
 use Rattle.staircase.proofs.Construction.{coefficient_at-byte}
 use Rattle.staircase.proofs.Groups.{counts_fall}

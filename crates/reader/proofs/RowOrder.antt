@@ -11,7 +11,7 @@ use lib.ListN.{length, get_or, take, drop, length-append, length-drop, get_or-ap
 use lib.Seq.{ext_get_or, get_or-take, get_or-drop, length-take-le}
 use Rattle.lists.proofs.Joined.{in-grid}
 use Rattle.lists.proofs.Tests.{lt_or_le}
-use Rattle.scheme.specs.declared.Scheme.{Scheme}
+use Rattle.scheme.specs.declared.accepted.Scheme.{Scheme}
 use Rattle.staircase.specs.Coefficients.{count_of, origin}
 use Rattle.rows.specs.Sources.{RowOrigins}
 use Rattle.order.specs.ReadingOrder.{row_in_turn}

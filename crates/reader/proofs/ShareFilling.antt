@@ -11,7 +11,7 @@ use Rattle.lists.proofs.Joined.{row_of, place_of}
 use Rattle.lists.proofs.Table.{tabulate_is}
 use Rattle.lists.proofs.Tests.{lt_or_le}
 use Rattle.interpolation.specs.Polynomial.{eval}
-use Rattle.scheme.specs.declared.Scheme.{Scheme}
+use Rattle.scheme.specs.declared.accepted.Scheme.{Scheme}
 use Rattle.staircase.specs.Coefficients.{share_byte}
 use Rattle.rows.specs.Sources.{RowOrigins}
 use Rattle.reader.specs.declared.decoding.Sizes.{Sizes}

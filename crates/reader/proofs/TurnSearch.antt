@@ -10,7 +10,7 @@ use native.Mathlib.Omega.{arith}
 use lib.ListN.{length, get_or}
 use Rattle.lists.proofs.Tests.{lt_or_le}
 use Rattle.interpolation.specs.Interpolation.{side}
-use Rattle.scheme.specs.declared.Scheme.{Scheme}
+use Rattle.scheme.specs.declared.accepted.Scheme.{Scheme}
 use Rattle.staircase.specs.Coefficients.{count_of, origin}
 use Rattle.rows.specs.Origins.{origins_over}
 use Rattle.rows.specs.Sources.{RowOrigins}

@@ -6,7 +6,7 @@ use Rattle.lists.specs.Differing.{differing}
 use Rattle.lists.specs.Table.{piece}
 use Rattle.lists.specs.Without.{without, without_piece}
 use Rattle.interpolation.specs.Opening.{opening_table}
-use Rattle.scheme.specs.declared.Scheme.{Scheme}
+use Rattle.scheme.specs.declared.accepted.Scheme.{Scheme}
 use Rattle.scheme.specs.Facts.{SchemeIs}
 use Rattle.scheme.specs.Limits.{max_block, max_blocks, max_message}
 use Rattle.scheme.specs.Readers.{readers_refused}

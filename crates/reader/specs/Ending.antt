@@ -1,7 +1,7 @@
 -- How the reader's code knows where a message ends, and what it writes by that; what is lent for an opening, whole or of a range.
 -- Assumes nothing.
 use Rattle.std.specs.Prelude.{◌≡◌, true, false, List, ℕ, ◌+◌, ◌-◌, ◌*◌, ◌≤◌, ◌<◌, length, get_or, take, drop}
-use Rattle.scheme.specs.declared.Scheme.{Scheme}
+use Rattle.scheme.specs.declared.accepted.Scheme.{Scheme}
 use Rattle.scheme.specs.Limits.{max_block, max_message, max_blocks}
 use Rattle.family.specs.Padding.{last_nonzero, end_place, end_refused}
 use Rattle.order.specs.RowsTaken.{Reached}

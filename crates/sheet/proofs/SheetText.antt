@@ -10,7 +10,7 @@ use native.Mathlib.Nat.{div-le_self, mul-le-mul, eq-zero-or-pos}
 use native.Mathlib.Omega.{arith}
 use lib.ListN.{length, get_or, take, drop, length-append}
 use borrow.Author.Tests.{eq-eqb, ne_eqb}
-use Rattle.scheme.specs.declared.Scheme.{Scheme}
+use Rattle.scheme.specs.declared.accepted.Scheme.{Scheme}
 use Rattle.scheme.specs.declared.SchemeAnswer.{SchemeAnswer}
 use Rattle.scheme.specs.declared.SchemeAnswer.TheVariants.{Accepted, Refused}
 use Rattle.scheme.specs.Limits.{max_parties, max_block, default_n, default_r, default_z, default_counts}

@@ -10,7 +10,7 @@ use lib.ListN.{length, take, drop, length-append, length-drop}
 use lib.Seq.{length-take-le, take_at}
 use borrow.Author.Rules.{part_to_end}
 use borrow.Author.Rules.{rules}
-use Rattle.scheme.specs.declared.Scheme.{Scheme}
+use Rattle.scheme.specs.declared.accepted.Scheme.{Scheme}
 use Rattle.reader.specs.declared.ending.End.{End}
 use Rattle.reader.specs.declared.ending.End.TheVariants.{At, Missing}
 use Rattle.reader.specs.declared.ending.Ending.{Ending}

@@ -8,7 +8,7 @@ use lib.ListN.{length}
 use borrow.Author.Rules.{rules}
 use borrow.Author.Tests.{not-false, eq-eqb}
 use Rattle.lists.specs.Each.{occurs}
-use Rattle.scheme.specs.declared.Scheme.{Scheme}
+use Rattle.scheme.specs.declared.accepted.Scheme.{Scheme}
 use Rattle.scheme.specs.Facts.{SchemeIs}
 use Rattle.scheme.specs.Readers.{readers_refused}
 use Rattle.scheme.proofs.Laws.{accepted-scheme, refuses, numbered, done, pass, stop_scheme, stop_true, pass_false, stop_other, pass_same}

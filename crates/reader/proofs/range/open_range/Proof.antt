@@ -11,7 +11,7 @@ use lib.ListN.{length}
 use borrow.Author.Rules.{rules}
 use borrow.Author.Tests.{not-false, ltb-false}
 use Rattle.lists.specs.Each.{occurs}
-use Rattle.scheme.specs.declared.Scheme.{Scheme}
+use Rattle.scheme.specs.declared.accepted.Scheme.{Scheme}
 use Rattle.scheme.specs.Limits.{max_message}
 use Rattle.scheme.specs.Outcome.{Outcome, number_if}
 use Rattle.scheme.specs.Check.{refusal}

@@ -11,7 +11,7 @@ use lib.Dec.{ltb}
 use lib.ListN.{length}
 use borrow.Author.Rules.{rules}
 use borrow.Author.Tests.{lt-ltb, le-ltb}
-use Rattle.scheme.specs.declared.Scheme.{Scheme}
+use Rattle.scheme.specs.declared.accepted.Scheme.{Scheme}
 use Rattle.scheme.specs.Facts.{SchemeIs}
 use Rattle.scheme.specs.Outcome.{Outcome, number_if}
 use Rattle.scheme.specs.Check.{refusal}
