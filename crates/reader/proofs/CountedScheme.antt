@@ -12,7 +12,7 @@ use Rattle.interpolation.specs.Interpolation.{side}
 use Rattle.scheme.specs.declared.accepted.Scheme.{Scheme}
 use Rattle.scheme.specs.Facts.{SchemeFacts, SchemeIs}
 use Rattle.scheme.specs.Limits.{max_block, max_blocks}
-use Rattle.scheme.proofs.Laws.{scheme_own}
+use Rattle.scheme.proofs.Laws.{scheme_fields}
 use Rattle.staircase.proofs.Sizes.{rows_few}
 use Rattle.rows.proofs.Scheme.{facts_of}
 use Rattle.order.proofs.ReadingOrder.{CountIn}
@@ -20,7 +20,7 @@ use Rattle.reader.specs.Decoding.{sent_rows, sent_bytes, Counted, Input}
 
 -- s is what the check answers for these parameters
 pub counted_of : {n r z : ℕ} {ds : List ℕ} {s : Scheme} {d : ℕ} → SchemeIs s n r z ds → occurs d ds ≡ true → Counted s ds d
-counted_of is h = record { scheme = scheme_own _ _ _ _ _ is; count = h }
+counted_of is h = record { scheme = scheme_fields _ _ _ _ _ is; count = h }
 
 module _ {s : Scheme} {ds : List ℕ} {d : ℕ} (C : Counted s ds d) where
   pub A : SchemeFacts s.n s.r s.z ds s.block s.rows

@@ -35,7 +35,7 @@ use Rattle.scheme.specs.Facts as facts
 use Rattle.scheme.specs.Limits.{max_block, max_blocks}
 use Rattle.scheme.proofs.Laws.{readers_rise, parties_distinct, parties_few}
 use Rattle.family.specs.Family.{share_of_blocks}
-use Rattle.staircase.specs.Parameters.{Parameters, Party, parameters_of, block, rows, point}
+use Rattle.staircase.specs.Parameters.{Parameters, Party, parameters_with, block, rows, point}
 use Rattle.staircase.specs.Coefficients.{share_byte}
 use Rattle.staircase.specs.Shares.{staircase}
 use Rattle.staircase.proofs.Columns.{part_at}
@@ -62,20 +62,20 @@ points-left p parties skip d h =
     ∙ ap (point p) (get_or-take d (without skip parties) i 0 b ∙ get_or-without parties skip i))
 
 -- the share at a party's point is the party's share
-share_at_is : (s : Scheme) (ds : List ℕ) (S : facts.SchemeIs s s.n s.r s.z ds) (N : ℕ) (B K : List ℕ) → length B ≡ N * block (parameters_of s ds)
-    → length K ≡ N * (rows (parameters_of s ds) * s.z) → (party : ℕ)
-    → share_at s ds N B K (point (parameters_of s ds) party) ≡ share_in (parameters_of s ds) N B K party
+share_at_is : (s : Scheme) (ds : List ℕ) (S : facts.SchemeIs s s.n s.r s.z ds) (N : ℕ) (B K : List ℕ) → length B ≡ N * block (parameters_with s ds)
+    → length K ≡ N * (rows (parameters_with s ds) * s.z) → (party : ℕ)
+    → share_at s ds N B K (point (parameters_with s ds) party) ≡ share_in (parameters_with s ds) N B K party
 unfolding share_of_blocks share_byte staircase
 share_at_is s ds S N B K whole enough party =
     rw (S.block_is, S.rows_is)
-    (tabulate-same (rows (parameters_of s ds) * N) _ _
+    (tabulate-same (rows (parameters_with s ds) * N) _ _
     (λ i h.
-    let g = in-grid i (rows (parameters_of s ds)) N h in
-    sym (part_at (parameters_of s ds) S.passed N B K whole enough (i % N) (i / N) g.1 g.0 party)))
+    let g = in-grid i (rows (parameters_with s ds)) N h in
+    sym (part_at (parameters_with s ds) S.passed N B K whole enough (i % N) (i / N) g.1 g.0 party)))
 
 module _ {s : Scheme} {ds parties : List ℕ} {blocks skip : ℕ} {shares : List ℕ} (L : Lending s ds parties blocks skip shares) where
   abbrev p : Parameters
-  p = parameters_of s ds
+  p = parameters_with s ds
 
   abbrev d : ℕ
   d = s.n - s.r
@@ -262,24 +262,24 @@ module _ (p : Parameters) (parties : List ℕ) (N : ℕ) (shares : List ℕ) (L 
 
 module _ {s : Scheme} {ds parties : List ℕ} {blocks skip : ℕ} {shares : List ℕ} (L : Lending s ds parties blocks skip shares) (bytes : Each Byte shares) where
   pub test_fails : (a : ℕ) → a < length parties → same_at s ds parties blocks skip shares a ≡ false → agrees_in s ds parties blocks skip shares ≡ false
-  test_fails = fails (parameters_of s ds) parties blocks shares (lent-all L bytes) skip s.rows L.scheme.rows_is L.many
+  test_fails = fails (parameters_with s ds) parties blocks shares (lent-all L bytes) skip s.rows L.scheme.rows_is L.many
 
   pub test-first : (m : ℕ) → ((skip < s.n - s.r) × (m ≡ s.n - s.r + 1)) ⊎ ((s.n - s.r ≤ skip) × (m ≡ s.n - s.r))
       → (a : ℕ) → a < m → same_at s ds parties blocks skip shares a ≡ true
   test-first m which a h =
-      first_same_again (parameters_of s ds) parties blocks shares (lent-all L bytes) skip s.rows L.scheme.rows_is L.many a m which h (ℕ_discrete a skip)
+      first_same_again (parameters_with s ds) parties blocks shares (lent-all L bytes) skip s.rows L.scheme.rows_is L.many a m which h (ℕ_discrete a skip)
 
   pub test_passes : ((a : ℕ) → a < length parties → same_at s ds parties blocks skip shares a ≡ true) → agrees_in s ds parties blocks skip shares ≡ true
-  test_passes = passes (parameters_of s ds) parties blocks shares (lent-all L bytes) skip s.rows L.scheme.rows_is L.many
+  test_passes = passes (parameters_with s ds) parties blocks shares (lent-all L bytes) skip s.rows L.scheme.rows_is L.many
 
 -- ---- whom a disagreement names
 
 module _ {s : Scheme} {ds parties : List ℕ} {blocks : ℕ} {shares : List ℕ} (L : Lending s ds parties blocks (length parties) shares) where
   abbrev test : ℕ → Bool
-  test = agrees_without (parameters_of s ds) parties blocks shares
+  test = agrees_without (parameters_with s ds) parties blocks shares
 
-  pub named_few : length parties < s.n - s.r + 2 → 0 ≡ named (parameters_of s ds) parties blocks shares
-  named_few h = sym (names_none (parameters_of s ds) parties blocks shares h)
+  pub named_few : length parties < s.n - s.r + 2 → 0 ≡ named (parameters_with s ds) parties blocks shares
+  named_few h = sym (names_none (parameters_with s ds) parties blocks shares h)
 
   -- without one of them enough are left
   pub lending_without : s.n - s.r + 1 ≤ length parties → (i : ℕ) → i < length parties → Lending s ds parties blocks i shares
@@ -294,7 +294,7 @@ module _ {s : Scheme} {ds parties : List ℕ} {blocks : ℕ} {shares : List ℕ}
 
   tested : (i : ℕ) (t : Bool) → t ≡ agrees_in s ds parties blocks i shares → test i ≡ t
   tested i t e =
-      sym (e ∙ ap (λ (b : ℕ). agrees (parameters_of s ds) (without i parties) blocks (without_piece (b * blocks) i shares)) L.scheme.rows_is)
+      sym (e ∙ ap (λ (b : ℕ). agrees (parameters_with s ds) (without i parties) blocks (without_piece (b * blocks) i shares)) L.scheme.rows_is)
 
   -- the search from place i on
   module _ (i : ℕ) (reached : first_from test (length parties - i) i ≡ first_from test (length parties) 0) where
@@ -304,15 +304,15 @@ module _ {s : Scheme} {ds parties : List ℕ} {blocks : ℕ} {shares : List ℕ}
 
     -- what it has found is named only where two more than enough are lent
     module _ (many : s.n - s.r + 2 ≤ length parties) where
-      named-at : named (parameters_of s ds) parties blocks shares ≡ get_or parties (first_from test (length parties) 0) 0
+      named-at : named (parameters_with s ds) parties blocks shares ≡ get_or parties (first_from test (length parties) 0) 0
       unfolding named
       named-at = rw (le-ltb (length parties) (s.n - s.r + 2) many)
 
-      pub named_here : i < length parties → (t : Bool) → t ≡ agrees_in s ds parties blocks i shares → t ≡ true → get_or parties i 0 ≡ named (parameters_of s ds) parties blocks shares
+      pub named_here : i < length parties → (t : Bool) → t ≡ agrees_in s ds parties blocks i shares → t ≡ true → get_or parties i 0 ≡ named (parameters_with s ds) parties blocks shares
       named_here h t e is =
           sym (named-at ∙ ap (λ (x : ℕ). get_or parties x 0) (sym reached ∙ first_here test (length parties) i h (tested i t e ∙ is)))
 
-      pub named_none : length parties ≤ i → 0 ≡ named (parameters_of s ds) parties blocks shares
+      pub named_none : length parties ≤ i → 0 ≡ named (parameters_with s ds) parties blocks shares
       named_none h =
           sym (named-at ∙ ap (λ (x : ℕ). get_or parties x 0) (sym reached ∙ first_end test (length parties) i h) ∙ get_or-eq_default parties 0 h)
 
@@ -325,8 +325,8 @@ module _ {s : Scheme} {ds parties : List ℕ} {blocks : ℕ} {shares : List ℕ}
   all_shares_left : without_piece (s.rows * blocks) (length parties) shares ≡ shares
   all_shares_left = without_none (s.rows * blocks) (length parties) shares L.shares_long
 
-  pub agrees_whole : agrees_in s ds parties blocks (length parties) shares ≡ agrees (parameters_of s ds) parties blocks shares
-  agrees_whole = ap₂ (λ (l m : List ℕ). agrees (parameters_of s ds) l blocks m) all_left all_shares_left
+  pub agrees_whole : agrees_in s ds parties blocks (length parties) shares ≡ agrees (parameters_with s ds) parties blocks shares
+  agrees_whole = ap₂ (λ (l m : List ℕ). agrees (parameters_with s ds) l blocks m) all_left all_shares_left
 
-  pub rebuilt_whole : (party : ℕ) → rebuilt_in s ds parties blocks (length parties) shares party ≡ rebuilt (parameters_of s ds) parties blocks shares party
-  rebuilt_whole party = ap₂ (λ (l m : List ℕ). rebuilt (parameters_of s ds) l blocks m party) all_left all_shares_left
+  pub rebuilt_whole : (party : ℕ) → rebuilt_in s ds parties blocks (length parties) shares party ≡ rebuilt (parameters_with s ds) parties blocks shares party
+  rebuilt_whole party = ap₂ (λ (l m : List ℕ). rebuilt (parameters_with s ds) l blocks m party) all_left all_shares_left

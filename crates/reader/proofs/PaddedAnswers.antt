@@ -20,9 +20,9 @@ use Rattle.scheme.specs.Outcome.{accepted}
 use Rattle.scheme.specs.Check.{rows_of_count}
 use Rattle.scheme.specs.Readers.{readers_refused}
 use Rattle.scheme.specs.Padding.{most_padded, blocks_held}
-use Rattle.scheme.proofs.Laws.{answer_none, scheme_own, held-told, most_full, padded_count_few}
+use Rattle.scheme.proofs.Laws.{answer_none, scheme_fields, held-told, most_full, padded_count_few}
 use Rattle.family.specs.Padding.{end_place, end_refused}
-use Rattle.staircase.specs.Parameters.{Parameters, block, prefix_rows, parameters_of}
+use Rattle.staircase.specs.Parameters.{Parameters, block, prefix_rows, parameters_with}
 use Rattle.staircase.specs.Exactness.{prefix_bytes, opened_string}
 use Rattle.reader.specs.declared.ending.End.{End}
 use Rattle.reader.specs.declared.ending.End.TheVariants.{At, Missing}
@@ -107,13 +107,13 @@ module _ {p : Parameters} {s : Scheme} {parties prefixes : List ℕ} {N : ℕ} (
 
   -- ---- what was opened
 
-  module _ (out : List ℕ) (end : End) (w : List ℕ) (O : OpenedBy Sought s.block 0 (opened_string (parameters_of s p.counts) parties N prefixes) out end w) where
-    opened_is : opened_string (parameters_of s p.counts) parties N prefixes ≡ opened_padded p parties prefixes
+  module _ (out : List ℕ) (end : End) (w : List ℕ) (O : OpenedBy Sought s.block 0 (opened_string (parameters_with s p.counts) parties N prefixes) out end w) where
+    opened_is : opened_string (parameters_with s p.counts) parties N prefixes ≡ opened_padded p parties prefixes
     unfolding opened_padded
     opened_is = rw (T.scheme.n_is, T.scheme.r_is, T.scheme.z_is, T.N_is)
 
-    long : length (opened_string (parameters_of s p.counts) parties N prefixes) ≡ N * s.block
-    long = opened_long s p.counts (scheme_own _ _ _ _ _ T.scheme) parties T.count (rw T.scheme.n_is T.rising) N prefixes
+    long : length (opened_string (parameters_with s p.counts) parties N prefixes) ≡ N * s.block
+    long = opened_long s p.counts (scheme_fields _ _ _ _ _ T.scheme) parties T.count (rw T.scheme.n_is T.rising) N prefixes
 
     found_end : FoundEnd (block p) (blocks_sent p d (length prefixes)) (opened_padded p parties prefixes) end
     found_end = rw (opened_is, T.N_is, T.scheme.block_is) at (O.end_is N T.some long)

@@ -14,7 +14,7 @@ use Rattle.scheme.specs.Facts.{SchemeIs}
 use Rattle.scheme.specs.Outcome.{accepted, first_of}
 use Rattle.scheme.specs.Check.{block_count}
 use Rattle.scheme.proofs.Laws.{answer_none}
-use Rattle.staircase.specs.Parameters.{Parameters, blocks_of, prefix_rows, parameters_of}
+use Rattle.staircase.specs.Parameters.{Parameters, blocks_of, prefix_rows, parameters_with}
 use Rattle.staircase.specs.Exactness.{prefix_bytes, opened_string}
 use Rattle.staircase.proofs.Sizes.{blocks_are}
 use Rattle.order.specs.RowsTaken.{rows_taken}
@@ -56,7 +56,7 @@ pub opens : (p : Parameters) (s : Scheme) → SchemeIs s p.n p.r p.z p.counts �
     → range_refusal p message start long parties (length prefixes) (length out) ≡ 0 → length out ≡ long → start + long ≤ message
     → (used : ℕ) (end : End) (w : List ℕ)
     → used ≡ length parties * (many * N)
-    → OpenedBy Told s.block start (opened_string (parameters_of s p.counts) parties N prefixes) out end w
+    → OpenedBy Told s.block start (opened_string (parameters_with s p.counts) parties N prefixes) out end w
     → (accepted (used ∷ []) ≡ opened_answer rows p message start long parties (length prefixes) (length out))
     × (w ≡ range_output p message start long parties prefixes out)
 unfolding opened_answer range_output

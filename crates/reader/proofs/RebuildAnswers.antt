@@ -17,8 +17,8 @@ use Rattle.scheme.specs.Limits.{max_block, max_blocks, max_message}
 use Rattle.scheme.specs.Outcome.{Outcome, accepted, refused, first_of}
 use Rattle.scheme.specs.Padding.{most_padded, blocks_held}
 use Rattle.scheme.specs.Readers.{readers_refused}
-use Rattle.scheme.proofs.Laws.{Way, refuses, answer-number, scheme_own, held-told, padded_count_few, parties_few}
-use Rattle.staircase.specs.Parameters.{Parameters, parameters_of, share_bytes}
+use Rattle.scheme.proofs.Laws.{Way, refuses, answer-number, scheme_fields, held-told, padded_count_few, parties_few}
+use Rattle.staircase.specs.Parameters.{Parameters, parameters_with, share_bytes}
 use Rattle.rows.proofs.Scheme.{facts_of, rows_high}
 use Rattle.agreement.specs.Agreement.{agrees}
 use Rattle.reader.specs.declared.rebuilding.RebuildAnswer.{RebuildAnswer}
@@ -41,10 +41,10 @@ turns_away {qs = qs} {q = q} new other w =
 
 module _ (p : Parameters) (s : Scheme) (is : SchemeIs s p.n p.r p.z p.counts) where
   facts : SchemeFacts s.n s.r s.z p.counts s.block s.rows
-  facts = facts_of s p.counts (scheme_own s p.n p.r p.z p.counts is)
+  facts = facts_of s p.counts (scheme_fields s p.n p.r p.z p.counts is)
 
   rows_short : s.rows ≤ s.block
-  rows_short = rows_high s p.counts (scheme_own s p.n p.r p.z p.counts is)
+  rows_short = rows_high s p.counts (scheme_fields s p.n p.r p.z p.counts is)
 
   rows_few : s.rows ≤ max_block
   rows_few = omega (arith, rows_short, m_most p s is)
@@ -93,14 +93,14 @@ module _ (p : Parameters) (s : Scheme) (is : SchemeIs s p.n p.r p.z p.counts) wh
       → length shares ≡ length parties * (N * s.rows) → Lending s p.counts parties N (length parties) shares
   lends parties shares N passed many high long =
       record {
-        scheme = scheme_own s p.n p.r p.z p.counts is;
+        scheme = scheme_fields s p.n p.r p.z p.counts is;
         passed = rw is.n_is passed;
         blocks_high = high;
         shares_long = long ∙ ap (λ (x : ℕ). length parties * x) (mul_comm N s.rows);
         many = rw (without_past parties (length parties) (le_of_eq refl), is.n_is, is.r_is) many;
       }
 
-  scheme-same : parameters_of s p.counts ≡ p
+  scheme-same : parameters_with s p.counts ≡ p
   scheme-same = rw (is.n_is, is.r_is, is.z_is)
 
   -- no refusal but 18

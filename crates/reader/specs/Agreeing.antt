@@ -10,7 +10,7 @@ use Rattle.scheme.specs.declared.accepted.Scheme.{Scheme}
 use Rattle.scheme.specs.Facts.{SchemeIs}
 use Rattle.scheme.specs.Limits.{max_block, max_blocks, max_message}
 use Rattle.scheme.specs.Readers.{readers_refused}
-use Rattle.staircase.specs.Parameters.{parameters_of, point}
+use Rattle.staircase.specs.Parameters.{parameters_with, point}
 use Rattle.agreement.specs.Agreement.{found_blocks, rebuilt, agrees, named}
 use Rattle.reader.specs.declared.rebuilding.RebuildAnswer.{RebuildAnswer}
 use Rattle.reader.specs.declared.rebuilding.RebuildAnswer.TheVariants.{Rebuilt, Disagreeing, Refused}
@@ -30,17 +30,17 @@ pub record RoomFits (s : Scheme) (blocks : ℕ) : Type 0 where
 
 -- the weights of an opening by the first n − r parties that are left
 abbrev pub weights_in : Scheme → List ℕ → List ℕ → ℕ → List (List ℕ)
-weights_in s ds parties skip = opening_table (map (point (parameters_of s ds)) (take (s.n - s.r) (without skip parties))) (get_or ds 0 0)
+weights_in s ds parties skip = opening_table (map (point (parameters_with s ds)) (take (s.n - s.r) (without skip parties))) (get_or ds 0 0)
 
 -- the blocks, a party's share and the test of agreement, from what is left
 abbrev pub found_in : Scheme → List ℕ → List ℕ → ℕ → ℕ → List ℕ → List ℕ
-found_in s ds parties blocks skip shares = found_blocks (parameters_of s ds) (without skip parties) blocks (without_piece (s.rows * blocks) skip shares)
+found_in s ds parties blocks skip shares = found_blocks (parameters_with s ds) (without skip parties) blocks (without_piece (s.rows * blocks) skip shares)
 
 abbrev pub rebuilt_in : Scheme → List ℕ → List ℕ → ℕ → ℕ → List ℕ → ℕ → List ℕ
-rebuilt_in s ds parties blocks skip shares party = rebuilt (parameters_of s ds) (without skip parties) blocks (without_piece (s.rows * blocks) skip shares) party
+rebuilt_in s ds parties blocks skip shares party = rebuilt (parameters_with s ds) (without skip parties) blocks (without_piece (s.rows * blocks) skip shares) party
 
 abbrev pub agrees_in : Scheme → List ℕ → List ℕ → ℕ → ℕ → List ℕ → Bool
-agrees_in s ds parties blocks skip shares = agrees (parameters_of s ds) (without skip parties) blocks (without_piece (s.rows * blocks) skip shares)
+agrees_in s ds parties blocks skip shares = agrees (parameters_with s ds) (without skip parties) blocks (without_piece (s.rows * blocks) skip shares)
 
 -- is the share at place a left out, or what is rebuilt for its party?
 abbrev pub same_at : Scheme → List ℕ → List ℕ → ℕ → ℕ → List ℕ → ℕ → Bool
@@ -51,8 +51,8 @@ same_at s ds parties blocks skip shares a =
 -- not, the party named is answered, and nothing is written
 abbrev pub RebuildsLent : Scheme → List ℕ → List ℕ → ℕ → List ℕ → ℕ → List ℕ → List ℕ → RebuildAnswer → List ℕ → Type 0
 RebuildsLent s ds parties blocks shares wanted held before (Rebuilt different) after =
-    (agrees (parameters_of s ds) parties blocks shares ≡ true) × (different ≡ differing held (rebuilt (parameters_of s ds) parties blocks shares wanted))
-    × (after ≡ rebuilt (parameters_of s ds) parties blocks shares wanted)
+    (agrees (parameters_with s ds) parties blocks shares ≡ true) × (different ≡ differing held (rebuilt (parameters_with s ds) parties blocks shares wanted))
+    × (after ≡ rebuilt (parameters_with s ds) parties blocks shares wanted)
 RebuildsLent s ds parties blocks shares wanted held before (Disagreeing party) after =
-    (agrees (parameters_of s ds) parties blocks shares ≡ false) × (party ≡ named (parameters_of s ds) parties blocks shares) × (after ≡ before)
+    (agrees (parameters_with s ds) parties blocks shares ≡ false) × (party ≡ named (parameters_with s ds) parties blocks shares) × (after ≡ before)
 RebuildsLent s ds parties blocks shares wanted held before (Refused q) after = ⊥

@@ -93,7 +93,19 @@ accepted-scheme e =
     let v = none.1 in
     record { passed = none.0; n_is = cc v; r_is = cc v; z_is = cc v; block_is = cc v; rows_is = cc v }
 
--- s is the scheme of its own fields
+-- s is also the scheme of its own n, r and z
+pub scheme_fields : (s : Scheme) (n r z : ℕ) (ds : List ℕ) → SchemeIs s n r z ds → SchemeIs s s.n s.r s.z ds
+scheme_fields s n r z ds is =
+    record {
+      passed = rw (is.n_is, is.r_is, is.z_is) is.passed;
+      n_is = refl;
+      r_is = refl;
+      z_is = refl;
+      block_is = rw is.z_is is.block_is;
+      rows_is = rw (is.n_is, is.r_is, is.z_is) is.rows_is;
+    }
+
+-- and of its own counts
 pub scheme_own : (s : Scheme) → SchemeIs s s.n s.r s.z s.counts.now
 scheme_own s =
     record {

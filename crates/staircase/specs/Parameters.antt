@@ -67,9 +67,12 @@ scheme_a = parameters 3 1 1 (3 ∷ 2 ∷ [])
 abbrev pub given_parameters : Given → Parameters
 given_parameters p = parameters p.n p.r p.z p.counts.now
 
--- those of the scheme that the check answered
+-- those of the scheme that the check answered, with these counts, and with its own
+abbrev pub parameters_with : Scheme → List ℕ → Parameters
+parameters_with s counts = parameters s.n s.r s.z counts
+
 abbrev pub parameters_of : Scheme → Parameters
-parameters_of s = parameters s.n s.r s.z s.counts.now
+parameters_of s = parameters_with s s.counts.now
 
 -- those of the default scheme, for the calls without one
 abbrev pub default_parameters : Parameters

@@ -6,7 +6,7 @@ use native.Mathlib.Omega.{arith}
 use lib.ListN.{length}
 use borrow.Author.Rules.{rules}
 use Rattle.lists.specs.FirstFrom.{first_from}
-use Rattle.staircase.specs.Parameters.{parameters_of}
+use Rattle.staircase.specs.Parameters.{parameters_with}
 use Rattle.agreement.specs.Agreement.{agrees_without}
 use Rattle.reader.proofs.Lending.{few, list_few, lost_few, named_few, lending_without, named_here, named-next, named_none}
 use Rattle.reader.proofs.agreeing.name.Statement.{statement}
@@ -15,8 +15,8 @@ use Rattle.reader.proofs.agreeing.name.Tie as tie
 abbrev invariant-loop-i : tie.invariant-loop-i
 invariant-loop-i s counts blocks parties shares work₀ share₀ d i₀ work share i =
     (i ≤ length parties) × (length work ≡ length work₀) × (length share ≡ length share₀)
-    × (first_from (agrees_without (parameters_of s counts) parties blocks shares) (length parties - i) i
-    ≡ first_from (agrees_without (parameters_of s counts) parties blocks shares) (length parties) 0)
+    × (first_from (agrees_without (parameters_with s counts) parties blocks shares) (length parties - i) i
+    ≡ first_from (agrees_without (parameters_with s counts) parties blocks shares) (length parties) 0)
 
 abbrev decreases-loop-i : tie.decreases-loop-i
 decreases-loop-i s counts blocks parties shares work₀ share₀ d i₀ work share i = length parties - i
