@@ -3,7 +3,7 @@
 pub use Rattle.scheme.proofs.BlockLength.{block_least, least_unique}
 pub use Rattle.scheme.proofs.Refusals.{sizes}
 pub use Rattle.scheme.proofs.SchemeFacts.{accepted, accepted-scheme, scheme_fields, scheme_own, block_count_least}
-pub use Rattle.scheme.proofs.Numbers.{number_same}
+pub use Rattle.scheme.proofs.Numbers.{number_same, number_between}
 pub use Rattle.scheme.proofs.Examples.{default_accepted}
 pub use Rattle.scheme.proofs.Answers.{Way, scheme-told, done, stop, pass, stop_true, pass_false, stop_over, pass_within, stop_other, pass_same, stop_scheme, answers, numbered, answer_none, answer-number, answered_none, answered_some, kept, refuses, told-refused, told-accepted, first_none, first-passed, first_if}
 pub use Rattle.scheme.proofs.Parties.{readers_rise, readers_pass, parties_distinct, parties_few}

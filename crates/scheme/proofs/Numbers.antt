@@ -1,8 +1,9 @@
--- No two refusals have one number.
+-- No two refusals have one number, and the numbers are from 1 to 17.
 -- Assumes nothing.
 use mathlib.Core.Path.{◌≡◌, refl, sym, ap, ◌∙◌}
 use mathlib.Core.List.{List, [], ◌∷◌}
-use Prim.Native.Nat.{◌-◌}
+use Prim.Native.Nat.{◌-◌, ◌≤◌, ◌<◌}
+use native.Mathlib.Omega.{arith}
 use Rattle.std.specs.Prelude.{slice_index_or}
 use Rattle.scheme.specs.declared.refusal.Refusal.{Refusal}
 use Rattle.scheme.specs.declared.refusal.Refusal.TheVariants.{Parties, AbsentOrColluding, Counts, BlockLength, MessageLength, Readers, PartyNumbers, KeysLength, ShareLength, OutputLength, Padding, ArchiveCount, ArchiveEntries, EntryNumber, Range, Pool, TooFewShares}
@@ -52,3 +53,22 @@ found TooFewShares = refl
 
 pub number_same : (k q : Refusal) → number k ≡ number q → k ≡ q
 number_same k q e = sym (found k) ∙ ap (λ i. slice_index_or refusals (i - 1) Parties) e ∙ found q
+
+pub number_between : (q : Refusal) → (0 < number q) × (number q ≤ 17)
+number_between Parties = (omega arith, omega arith)
+number_between AbsentOrColluding = (omega arith, omega arith)
+number_between Counts = (omega arith, omega arith)
+number_between BlockLength = (omega arith, omega arith)
+number_between MessageLength = (omega arith, omega arith)
+number_between Readers = (omega arith, omega arith)
+number_between PartyNumbers = (omega arith, omega arith)
+number_between KeysLength = (omega arith, omega arith)
+number_between ShareLength = (omega arith, omega arith)
+number_between OutputLength = (omega arith, omega arith)
+number_between Padding = (omega arith, omega arith)
+number_between ArchiveCount = (omega arith, omega arith)
+number_between ArchiveEntries = (omega arith, omega arith)
+number_between EntryNumber = (omega arith, omega arith)
+number_between Range = (omega arith, omega arith)
+number_between Pool = (omega arith, omega arith)
+number_between TooFewShares = (omega arith, omega arith)

@@ -1,6 +1,7 @@
 -- Demand 2 for padded messages as one statement about a call of their opener: what its answer says of the parties and the lengths, exactness for them,
 -- and what its end says of the output.
 -- Assumes nothing.
+use Rattle.std.specs.Prelude.{Err, Ok}
 use mathlib.Core.Path.{◌≡◌, refl, sym, ap, ◌∙◌}
 use mathlib.Core.Bool.{true, false}
 use mathlib.Core.List.{List}
@@ -21,7 +22,6 @@ use Rattle.staircase.specs.Parameters.{Parameters, AcceptedScheme, default_param
 use Rattle.staircase.specs.Exactness.{prefix_bytes, OpenedBlocks}
 use Rattle.staircase.proofs.Sizes.{block_some}
 use Rattle.staircase.proofs.WholeBlocks.{blocks_exactness}
-use Rattle.reader.specs.declared.padded.PaddedAnswer.TheVariants.{Opened, Refused}
 use Rattle.reader.specs.ReconstructPadded.{blocks_sent, opened_padded, reconstruct_padded_refusal, reconstruct_padded_answer, reconstruct_padded_output}
 use Rattle.sharing.specs.PaddedOpening.{OpenedPaddedExactly, PaddedExactCalls}
 use Rattle.sharing.proofs.Opening.{rows_of}
@@ -104,13 +104,13 @@ module _ (p : Parameters) (parties prefixes before : List ℕ) (bytes : Each Byt
 
 pub padded_exact_calls : (p : Parameters) → PaddedExactCalls p
 unfolding reconstruct_padded_answer reconstruct_padded_output
-padded_exact_calls p parties prefixes before (Opened used message) after bytes C =
+padded_exact_calls p parties prefixes before (Ok opening) after bytes C =
     let told = answered_none _ _ _ C.0 in
     let R = read p parties prefixes (length before) told.0 in
-    let used_is : used ≡ prefix_bytes p (length parties) (blocks_sent p (length parties) (length prefixes)) = cc told.1 in
-    let message-is : message ≡ end_place (block p) (blocks_sent p (length parties) (length prefixes)) (opened_padded p parties prefixes) = cc told.1 in
+    let used_is : opening.used ≡ prefix_bytes p (length parties) (blocks_sent p (length parties) (length prefixes)) = cc told.1 in
+    let message-is : opening.length ≡ end_place (block p) (blocks_sent p (length parties) (length prefixes)) (opened_padded p parties prefixes) = cc told.1 in
     rw (used_is, message-is) (opened_exactly p parties prefixes before bytes R after (C.1 ∙ rw told.0))
-padded_exact_calls p parties prefixes before (Refused number) after bytes C = C.1 ∙ sym (kept _ (answered_some _ _ _ _ C.0).1)
+padded_exact_calls p parties prefixes before (Err q) after bytes C = C.1 ∙ sym (kept _ (answered_some _ _ _ _ C.0).1)
 
 -- the form without a scheme
 pub default_padded_exact_calls : PaddedExactCalls default_parameters

@@ -2,14 +2,14 @@
 -- whole blocks that some keys turn into the prefixes, which is the message and its padding, and answered the number of their bytes and the message's
 -- length. Nothing is asked of the scheme, the parties or the lengths: a call that was accepted has shown what it takes.
 -- Assumes nothing.
-use Rattle.std.specs.Prelude.{◌≡◌, List, ℕ, ◌-◌, ◌*◌, ◌≤◌, length, take}
+use Rattle.std.specs.Prelude.{◌≡◌, List, ℕ, ◌-◌, ◌*◌, ◌≤◌, length, take, Err, Ok, Result}
 use Rattle.lists.specs.Each.{Each, Byte}
 use Rattle.scheme.specs.Limits.{max_message}
 use Rattle.family.specs.Padding.{marked, EndsAt}
 use Rattle.staircase.specs.Parameters.{Parameters, block, prefix_rows, padded_blocks_of}
 use Rattle.staircase.specs.Exactness.{opened_string, OpenedBlocks}
-use Rattle.reader.specs.declared.padded.PaddedAnswer.{PaddedAnswer}
-use Rattle.reader.specs.declared.padded.PaddedAnswer.TheVariants.{Opened, Refused}
+use Rattle.scheme.specs.declared.refusal.Refusal.{Refusal}
+use Rattle.reader.specs.declared.padded.PaddedOpening.{PaddedOpening}
 use Rattle.reader.specs.ReconstructPadded.{ReconstructPaddedCall}
 
 -- what an accepted call did that answered `used` and the message's length
@@ -31,12 +31,12 @@ pub record OpenedPaddedExactly (p : Parameters) (parties prefixes : List ℕ) (u
   pub rows_of-count : prefix_rows p (length parties) * (length parties - p.z) ≡ block p
 
 -- what a call did, by its answer: a refused one left the output as it was
-abbrev pub OpensPadded : Parameters → List ℕ → List ℕ → List ℕ → PaddedAnswer → List ℕ → Type 0
-OpensPadded p parties prefixes before (Opened used message) after = OpenedPaddedExactly p parties prefixes used message after
-OpensPadded p parties prefixes before (Refused number) after = after ≡ before
+abbrev pub OpensPadded : Parameters → List ℕ → List ℕ → List ℕ → Result PaddedOpening Refusal → List ℕ → Type 0
+OpensPadded p parties prefixes before (Ok opening) after = OpenedPaddedExactly p parties prefixes opening.used opening.length after
+OpensPadded p parties prefixes before (Err q) after = after ≡ before
 
 -- every call with prefixes that are bytes (`padded_exact_calls` in proofs/PaddedOpening.antt), whatever else it is given
 abbrev pub PaddedExactCalls : Parameters → Type 0
 PaddedExactCalls p =
-    (parties prefixes before : List ℕ) (a : PaddedAnswer) (after : List ℕ) → Each Byte prefixes
+    (parties prefixes before : List ℕ) (a : Result PaddedOpening Refusal) (after : List ℕ) → Each Byte prefixes
     → ReconstructPaddedCall p parties prefixes before a after → OpensPadded p parties prefixes before a after
