@@ -1,7 +1,7 @@
 -- What the steps of a rebuilding do. The shares are those of the parties of a list, in the scheme s with the counts ds; the one at place `skip` is left
 -- out, or none where there is no such place.
 -- Assumes nothing.
-use Rattle.std.specs.Prelude.{◌≡◌, Bool, true, false, ◌||◌, List, map, ℕ, ◌+◌, ◌-◌, ◌*◌, ◌≤◌, eqb, length, get_or, take}
+use Rattle.std.specs.Prelude.{◌≡◌, Bool, true, false, ◌||◌, List, map, ℕ, ◌+◌, ◌-◌, ◌*◌, ◌≤◌, eqb, length, get_or, take, Result, Ok, Err}
 use Rattle.lists.specs.Differing.{differing}
 use Rattle.lists.specs.Table.{piece}
 use Rattle.lists.specs.Without.{without, without_piece}
@@ -12,8 +12,8 @@ use Rattle.scheme.specs.Limits.{max_block, max_blocks, max_message}
 use Rattle.scheme.specs.Readers.{readers_refused}
 use Rattle.staircase.specs.Parameters.{parameters_with, point}
 use Rattle.agreement.specs.Agreement.{found_blocks, rebuilt, agrees, named}
-use Rattle.reader.specs.declared.rebuilding.RebuildAnswer.{RebuildAnswer}
-use Rattle.reader.specs.declared.rebuilding.RebuildAnswer.TheVariants.{Rebuilt, Disagreeing, Refused}
+use Rattle.reader.specs.declared.rebuilding.RebuildRefusal.{RebuildRefusal}
+use Rattle.reader.specs.declared.rebuilding.RebuildRefusal.TheVariants.{Disagreeing, Refused}
 
 -- what is lent: enough shares of N blocks without the one left out
 pub record Lending (s : Scheme) (ds parties : List ℕ) (blocks skip : ℕ) (shares : List ℕ) : Type 0 where
@@ -49,10 +49,10 @@ same_at s ds parties blocks skip shares a =
 
 -- where no refusal but 18 may apply: they agree, and the answer is in how many bytes the held copy differs from the share that is written; or they do
 -- not, the party named is answered, and nothing is written
-abbrev pub RebuildsLent : Scheme → List ℕ → List ℕ → ℕ → List ℕ → ℕ → List ℕ → List ℕ → RebuildAnswer → List ℕ → Type 0
-RebuildsLent s ds parties blocks shares wanted held before (Rebuilt different) after =
+abbrev pub RebuildsLent : Scheme → List ℕ → List ℕ → ℕ → List ℕ → ℕ → List ℕ → List ℕ → Result ℕ RebuildRefusal → List ℕ → Type 0
+RebuildsLent s ds parties blocks shares wanted held before (Ok different) after =
     (agrees (parameters_with s ds) parties blocks shares ≡ true) × (different ≡ differing held (rebuilt (parameters_with s ds) parties blocks shares wanted))
     × (after ≡ rebuilt (parameters_with s ds) parties blocks shares wanted)
-RebuildsLent s ds parties blocks shares wanted held before (Disagreeing party) after =
+RebuildsLent s ds parties blocks shares wanted held before (Err (Disagreeing party)) after =
     (agrees (parameters_with s ds) parties blocks shares ≡ false) × (party ≡ named (parameters_with s ds) parties blocks shares) × (after ≡ before)
-RebuildsLent s ds parties blocks shares wanted held before (Refused q) after = ⊥
+RebuildsLent s ds parties blocks shares wanted held before (Err (Refused q)) after = ⊥
