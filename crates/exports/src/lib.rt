@@ -94,7 +94,8 @@ pub fn gf256_inverse(a: u8) -> Gf256InverseAnswer
 pub fn sharing_check(n: u8, r: u8, z: u8, counts: &[u8]) -> SharingScheme
     ensures { scheme_fields result ≡ checked_fields (checked n r z counts.now) }
 {
-    scheme::check(Parameters { n, r, z, counts }).into()
+    let given = Parameters { n, r, z, counts };
+    scheme::check(given).into()
 }
 
 pub fn sharing_check_default() -> SharingScheme
@@ -151,7 +152,8 @@ pub fn sharing_split(
 ) -> SharingAnswer
     ensures { SplitFields (parameters n r z counts.now) message.now keys.now out.old result out.new }
 {
-    sharing::split(Form::Earlier, Parameters { n, r, z, counts }, message, keys, out).into()
+    let given = Parameters { n, r, z, counts };
+    sharing::split(Form::Earlier, given, message, keys, out).into()
 }
 
 pub fn sharing_split_default(message: &[u8], keys: &[u8], out: &mut [u8]) -> SharingAnswer
@@ -172,7 +174,8 @@ pub fn sharing_prefix(
 ) -> SharingAnswer
     ensures { answer_fields result ≡ value_fields (prefix_answer (parameters n r z counts.now) message_length d (length share.now)) }
 {
-    sharing::prefix_length(Parameters { n, r, z, counts }, message_length, d, share).into()
+    let given = Parameters { n, r, z, counts };
+    sharing::prefix_length(given, message_length, d, share).into()
 }
 
 pub fn sharing_prefix_default(message_length: usize, d: usize, share: &[u8]) -> SharingAnswer
@@ -184,7 +187,8 @@ pub fn sharing_prefix_default(message_length: usize, d: usize, share: &[u8]) -> 
 pub fn sharing_basis(n: u8, r: u8, z: u8, counts: &[u8], parties: &[u8]) -> SharingBasis
     ensures { BasisFields (parameters n r z counts.now) parties.now result }
 {
-    basis_fields(Parameters { n, r, z, counts }, parties)
+    let given = Parameters { n, r, z, counts };
+    basis_fields(given, parties)
 }
 
 pub fn sharing_basis_default(parties: &[u8]) -> SharingBasis
@@ -226,7 +230,8 @@ pub fn sharing_reconstruct(
 ) -> SharingAnswer
     ensures { ReconstructFields (parameters n r z counts.now) message_length parties.now prefixes.now out.old result out.new }
 {
-    sharing::reconstruct(Parameters { n, r, z, counts }, message_length, parties, prefixes, out).into()
+    let given = Parameters { n, r, z, counts };
+    sharing::reconstruct(given, message_length, parties, prefixes, out).into()
 }
 
 pub fn sharing_reconstruct_default(

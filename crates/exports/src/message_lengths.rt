@@ -21,7 +21,8 @@ pub struct SharingLengths {
 pub fn sharing_lengths(n: u8, r: u8, z: u8, counts: &[u8], message_length: usize) -> SharingLengths
     ensures { lengths_fields result ≡ told_fields (lengths_answer (parameters n r z counts.now) message_length) }
 {
-    sharing::lengths(Form::Earlier, Parameters { n, r, z, counts }, message_length).into()
+    let given = Parameters { n, r, z, counts };
+    sharing::lengths(Form::Earlier, given, message_length).into()
 }
 
 pub fn sharing_lengths_default(message_length: usize) -> SharingLengths
@@ -39,7 +40,8 @@ pub fn sharing_lengths_padded(
 ) -> SharingLengths
     ensures { lengths_fields result ≡ told_fields (lengths_padded_answer (parameters n r z counts.now) message_length) }
 {
-    sharing::lengths(Form::Padded, Parameters { n, r, z, counts }, message_length).into()
+    let given = Parameters { n, r, z, counts };
+    sharing::lengths(Form::Padded, given, message_length).into()
 }
 
 pub fn sharing_lengths_padded_default(message_length: usize) -> SharingLengths

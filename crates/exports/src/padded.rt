@@ -28,7 +28,8 @@ pub fn sharing_split_padded(
 ) -> SharingAnswer
     ensures { SplitPaddedFields (parameters n r z counts.now) message.now keys.now out.old result out.new }
 {
-    sharing::split(Form::Padded, Parameters { n, r, z, counts }, message, keys, out).into()
+    let given = Parameters { n, r, z, counts };
+    sharing::split(Form::Padded, given, message, keys, out).into()
 }
 
 pub fn sharing_split_padded_default(message: &[u8], keys: &[u8], out: &mut [u8]) -> SharingAnswer
@@ -47,7 +48,8 @@ pub fn sharing_prefix_padded(
 ) -> SharingAnswer
     ensures { answer_fields result ≡ value_fields (prefix_padded_answer (parameters n r z counts.now) d (length share.now)) }
 {
-    sharing::prefix_padded_length(Parameters { n, r, z, counts }, d, share).into()
+    let given = Parameters { n, r, z, counts };
+    sharing::prefix_padded_length(given, d, share).into()
 }
 
 pub fn sharing_prefix_padded_default(d: usize, share: &[u8]) -> SharingAnswer
@@ -86,7 +88,8 @@ pub fn sharing_reconstruct_padded(
 ) -> SharingPaddedAnswer
     ensures { ReconstructPaddedFields (parameters n r z counts.now) parties.now prefixes.now out.old result out.new }
 {
-    sharing::reconstruct_padded(Parameters { n, r, z, counts }, parties, prefixes, out).into()
+    let given = Parameters { n, r, z, counts };
+    sharing::reconstruct_padded(given, parties, prefixes, out).into()
 }
 
 pub fn sharing_reconstruct_padded_default(

@@ -19,7 +19,8 @@ pub fn sharing_split_from_pool(
 ) -> SharingAnswer
     ensures { PoolSplitFields Earlier (parameters n r z counts.now) message.now bytes.now pool.old out.old result out.new pool.new }
 {
-    sharing::split_from_pool(pool, Form::Earlier, Parameters { n, r, z, counts }, message, bytes, out).into()
+    let given = Parameters { n, r, z, counts };
+    sharing::split_from_pool(pool, Form::Earlier, given, message, bytes, out).into()
 }
 
 pub fn sharing_split_from_pool_default(
@@ -45,7 +46,8 @@ pub fn sharing_split_padded_from_pool(
 ) -> SharingAnswer
     ensures { PoolSplitFields Padded (parameters n r z counts.now) message.now bytes.now pool.old out.old result out.new pool.new }
 {
-    sharing::split_from_pool(pool, Form::Padded, Parameters { n, r, z, counts }, message, bytes, out).into()
+    let given = Parameters { n, r, z, counts };
+    sharing::split_from_pool(pool, Form::Padded, given, message, bytes, out).into()
 }
 
 pub fn sharing_split_padded_from_pool_default(

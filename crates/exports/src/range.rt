@@ -19,8 +19,9 @@ pub fn sharing_reconstruct_range(
 ) -> SharingAnswer
     ensures { RangeFields (parameters n r z counts.now) message_length start range_length parties.now prefixes.now out.old result out.new }
 {
+    let given = Parameters { n, r, z, counts };
     sharing::reconstruct_range(
-        Parameters { n, r, z, counts },
+        given,
         message_length,
         start,
         range_length,
@@ -41,8 +42,9 @@ pub fn sharing_reconstruct_range_default(
 ) -> SharingAnswer
     ensures { RangeFields default_parameters message_length start range_length parties.now prefixes.now out.old result out.new }
 {
+    let given = Parameters::default();
     sharing::reconstruct_range(
-        Parameters::default(),
+        given,
         message_length,
         start,
         range_length,

@@ -28,7 +28,8 @@ pub fn sharing_rebuild(
 ) -> SharingRebuildAnswer
     ensures { RebuildFields (parameters n r z counts.now) parties.now shares.now party held.now out.old result out.new }
 {
-    sharing::rebuild(Parameters { n, r, z, counts }, parties, shares, party, held, out).into()
+    let given = Parameters { n, r, z, counts };
+    sharing::rebuild(given, parties, shares, party, held, out).into()
 }
 
 pub fn sharing_rebuild_default(

@@ -20,7 +20,8 @@ pub struct SharingTriedScheme {
 pub fn sharing_check_tried(n: u8, r: u8, z: u8, counts: &[u8]) -> SharingTriedScheme
     ensures { tried_scheme_fields result ≡ checked_tried_fields (checked_tried n r z counts.now) }
 {
-    scheme::check_tried(Parameters { n, r, z, counts }).into()
+    let given = Parameters { n, r, z, counts };
+    scheme::check_tried(given).into()
 }
 
 pub fn sharing_check_tried_default() -> SharingTriedScheme
@@ -33,15 +34,11 @@ impl From<TriedAnswer<'_>> for SharingTriedScheme {
     ghost from_gives = { λ answer s. tried_scheme_fields s ≡ checked_tried_fields (tried_outcome answer) };
 
     fn from(answer: TriedAnswer<'_>) -> SharingTriedScheme {
-        let SharingScheme {
-            refusal,
-            block,
-            rows,
-        } = answer.answer.into();
+        let scheme = SharingScheme::from(answer.answer);
         SharingTriedScheme {
-            refusal,
-            block,
-            rows,
+            refusal: scheme.refusal,
+            block: scheme.block,
+            rows: scheme.rows,
             tried: answer.tried as u64,
         }
     }
