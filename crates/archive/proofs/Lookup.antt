@@ -14,7 +14,9 @@ use Rattle.scheme.specs.Outcome.{accepted, refused, outcome, answer}
 use Rattle.scheme.proofs.Laws.{answers, answer_none, answered_none, answered_some, done, stop, pass, stop_true, pass_false, told-accepted, kept, first_none, first_if}
 use Rattle.archive.specs.declared.reading.EntryAnswer.{EntryAnswer}
 use Rattle.archive.specs.declared.reading.EntryAnswer.TheVariants.{At, Refused as EntryRefused}
+use Rattle.archive.specs.declared.pairs.Pair.{Pair}
 use Rattle.archive.specs.Format.{max_entries, head_bytes}
+use Rattle.archive.specs.Pairs.{PairIs}
 use Rattle.archive.specs.Reading.{count_of, offset_of, length_of, file_refusal, count_answer, entry_refusal, entry_outcome, place_answer, entry_length_answer, entry_of, entry_start, moved}
 use Rattle.archive.proofs.Passing.{passed, entry_first, entry-within}
 
@@ -38,14 +40,15 @@ module _ (file : List ℕ) (number : ℕ) (a : Answer) (e : outcome a ≡ count_
 
     module _ (below : number < count) where
       -- the pair stands in the file
-      pub pair_within : (count ≤ max_entries) × (head_bytes count ≤ length file)
-      pair_within = let p = passed file file-passed.0 in rw file-passed.1 (p.few, p.head)
+      pub pair_within : (number < max_entries) × (head_bytes number + 4 ≤ length file)
+      pair_within =
+          let p = passed file file-passed.0 in
+          (omega (arith, p.few, file-passed.1), omega (arith, p.head, file-passed.1))
 
-      pub entry_here : (offset size : ℕ) → offset ≡ offset_of file number → size ≡ length_of file number
-          → accepted (offset ∷ size ∷ []) ≡ place_answer file number
+      pub entry_here : {pair : Pair} → PairIs file number pair → accepted (pair.offset ∷ pair.length ∷ []) ≡ place_answer file number
       unfolding place_answer
-      entry_here offset size offset_is size_is =
-          rw (offset_is, size_is, entry_first) (answers (pass file-passed.0 (pass_false 14 (lt-leb (count_of file) number (rw file-passed.1 at below)) done)))
+      entry_here is =
+          rw (is.offset_is, is.length_is, entry_first) (answers (pass file-passed.0 (pass_false 14 (lt-leb (count_of file) number (rw file-passed.1 at below)) done)))
 
 -- ---- by the answer of the lookup
 

@@ -33,17 +33,12 @@ pub fn count(file: &[u8]) -> Answer
     if file.len() < start {
         return Answer::Refused(12);
     }
-    let mut i = 0;
-    while i < entries {
+    for i in 0..entries {
         let pair = pair_at(file, i);
-        if pair.offset != start {
-            return Answer::Refused(13);
-        }
-        if pair.length == 0 {
+        if pair.offset != start || pair.length == 0 {
             return Answer::Refused(13);
         }
         start = pair.offset + pair.length;
-        i += 1;
     }
     if start != file.len() {
         return Answer::Refused(13);

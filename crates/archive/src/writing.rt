@@ -1,6 +1,5 @@
 // Writing an archive.
 ghost use Rattle.std.specs.Prelude.{◌≡◌, true, ◌+◌, ◌≤◌, length, take};
-ghost use Rattle.std.proofs.Math.Seq.{paste};
 ghost use Rattle.archive.specs.Format.{max_entries, head_bytes, head_of};
 ghost use Rattle.archive.specs.Writing.{lengths_fit, would_break, WriteCall};
 
@@ -30,7 +29,8 @@ pub fn write(contents: &[u8], lengths: &[usize], out: &mut [u8]) -> Answer
         return Answer::Refused(10);
     }
     put_head(lengths, out);
-    put_contents(contents, head, out);
+    // The entries, end to end.
+    out[head..].copy_from_slice(contents);
     Answer::Value(bytes)
 }
 
@@ -42,20 +42,11 @@ fn would_break(contents: usize, lengths: &[usize]) -> bool
 {
     let head = head_bytes(lengths.len());
     let mut offset = head;
-    let mut i = 0;
-    while i < lengths.len() {
-        let size = lengths[i];
-        if size == 0 {
-            return true;
-        }
-        if MAX_NUMBER < size {
-            return true;
-        }
-        if MAX_NUMBER < offset {
+    for &size in lengths {
+        if size == 0 || MAX_NUMBER < size || MAX_NUMBER < offset {
             return true;
         }
         offset += size;
-        i += 1;
     }
     offset - head != contents
 }
@@ -67,25 +58,10 @@ fn put_head(lengths: &[usize], out: &mut [u8])
 {
     put_number(out, 0, lengths.len());
     let mut offset = head_bytes(lengths.len());
-    let mut i = 0;
-    while i < lengths.len() {
-        let size = lengths[i];
+    for (i, &size) in lengths.iter().enumerate() {
         let at = head_bytes(i);
         put_number(out, at, offset);
         put_number(out, at + 2, size);
         offset += size;
-        i += 1;
-    }
-}
-
-// Writes the entries, end to end, from a place on.
-fn put_contents(contents: &[u8], at: usize, out: &mut [u8])
-    requires { at + length contents.now ≤ length out.old }
-    ensures { out.new ≡ paste out.old at contents.now (length contents.now) }
-{
-    let mut i = 0;
-    while i < contents.len() {
-        out[at + i] = contents[i];
-        i += 1;
     }
 }
