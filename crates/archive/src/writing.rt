@@ -6,32 +6,32 @@ ghost use Rattle.archive.specs.Writing.{lengths_fit, would_break, WriteCall};
 use crate::MAX_ENTRIES;
 use crate::numbers::{MAX_NUMBER, put_number};
 use crate::pairs::head_bytes;
-use sharing::Answer;
+use sharing::Refusal;
 
 // Writes the archive of the entries, which are lent end to end with their lengths, and answers its length. On a refusal
 // nothing is written. Refusal 12: there are more lengths than an archive may have entries. 13: an entry has no byte, an
 // offset or a length does not fit two bytes, or the lengths do not add up to the contents. 10: the output has not the
 // archive's length.
-pub fn write(contents: &[u8], lengths: &[usize], out: &mut [u8]) -> Answer
+pub fn write(contents: &[u8], lengths: &[usize], out: &mut [u8]) -> Result<usize, Refusal>
     ensures { WriteCall contents.now lengths.now out.old result out.new }
 {
     if MAX_ENTRIES < lengths.len() {
-        return Answer::Refused(12);
+        return Err(Refusal::ArchiveCount);
     }
     // What a test asks is worked out before it, so that two of them stand in the table's order, side by side.
     let broken = would_break(contents.len(), lengths);
     let head = head_bytes(lengths.len());
     let bytes = head + contents.len();
     if broken {
-        return Answer::Refused(13);
+        return Err(Refusal::ArchiveEntries);
     }
     if out.len() != bytes {
-        return Answer::Refused(10);
+        return Err(Refusal::OutputLength);
     }
     put_head(lengths, out);
     // The entries, end to end.
     out[head..].copy_from_slice(contents);
-    Answer::Value(bytes)
+    Ok(bytes)
 }
 
 // Is there an entry with no byte, an offset or a length that does not fit two bytes, or do the lengths not add up? Each

@@ -5,18 +5,18 @@ use Rattle.archive.proofs.reading.entry.Goals as goal
 
 pub returns-in_default : goal.returns-in_default
 returns-in_default c =
-    let e = c.entry_place-place.ensures in
+    let e = c.entry_place.ensures in
     let told = c.in_default.is in
     (no_part _ _ _ e told, at-start _ _ _ e told c.args.file.ref_ptr)
 
 pub overflow_add-end : goal.overflow_add-end
-overflow_add-end c = omega (arith, part-within _ _ _ c.entry_place-place.ensures c.in-At.is)
+overflow_add-end c = omega (arith, part-within _ _ _ c.entry_place.ensures c.in-Ok.is)
 
 pub slice_bounds-result-end-2 : goal.slice_bounds-result-end-2
-slice_bounds-result-end-2 c = omega (arith, part-within _ _ _ c.entry_place-place.ensures c.in-At.is)
+slice_bounds-result-end-2 c = omega (arith, part-within _ _ _ c.entry_place.ensures c.in-Ok.is)
 
 pub returns : goal.returns
 returns c =
-    let e = c.entry_place-place.ensures in
-    let told = c.in-At.is in
+    let e = c.entry_place.ensures in
+    let told = c.in-Ok.is in
     (part-told _ _ _ e told, start-told _ _ _ e told c.args.file.ref_ptr)
