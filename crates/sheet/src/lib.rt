@@ -21,13 +21,12 @@ pub const MAX_INPUT: usize = 12;
 pub fn sheet(input: &[u8]) -> Text
     ensures { Whole result (sheet_text input.now) }
 {
-    if input.len() == 0 {
-        let counts = limits::DEFAULT_COUNTS;
+    if input.is_empty() {
         return scheme_text(
             limits::DEFAULT_N,
             limits::DEFAULT_R,
             limits::DEFAULT_Z,
-            &counts,
+            &limits::DEFAULT_COUNTS,
         );
     }
     scheme_text(
@@ -42,20 +41,15 @@ pub fn sheet(input: &[u8]) -> Text
 fn byte_or_0(input: &[u8], at: usize) -> u8
     ensures { result ≡ get_or input.now at 0 }
 {
-    if at < input.len() { input[at] } else { 0 }
+    input.get(at).copied().unwrap_or(0)
 }
 
 // The counts of the input: what follows n, r and z, of the bytes that count.
 fn counts_of(input: &[u8]) -> &[u8]
     ensures { result.now ≡ drop 3 (take max_input input.now) }
 {
-    if input.len() <= 3 {
-        return &input[..0];
-    }
-    if input.len() <= MAX_INPUT {
-        return &input[3..];
-    }
-    &input[3..MAX_INPUT]
+    let counted = &input[..input.len().min(MAX_INPUT)];
+    &counted[counted.len().min(3)..]
 }
 
 // The text for a scheme.
@@ -78,17 +72,14 @@ fn scheme_text(n: u8, r: u8, z: u8, counts: &[u8]) -> Text
 }
 
 // A text with one line a count after it, in the list's order.
-fn with_counts(text: Text, block: usize, z: u8, counts: &[u8]) -> Text
+fn with_counts(mut text: Text, block: usize, z: u8, counts: &[u8]) -> Text
     requires { block ≤ max_block }
     ensures { Adds text result (count_lines block z counts.now) }
 {
-    let mut longer = text;
-    let mut i = 0;
-    while i < counts.len() {
-        longer = with_count(longer, block, z, counts[i]);
-        i += 1;
+    for &d in counts {
+        text = with_count(text, block, z, d);
     }
-    longer
+    text
 }
 
 // A text with a count's line after it: d, its P, and the bytes read for a block, d times P.
@@ -96,7 +87,7 @@ fn with_count(text: Text, block: usize, z: u8, d: u8) -> Text
     requires { block ≤ max_block }
     ensures { Adds text result (count_line block z d) }
 {
-    let count = d as usize;
+    let count = usize::from(d);
     let rows = scheme::rows_of_count(block, z, count);
     text.number(count)
         .byte(32)
