@@ -100,6 +100,9 @@ pub record FoundLast (m : ℕ) (blocks : List ℕ) (last : Last) : Type 0 where
   pub room : m ≤ length blocks
   pub found : LastOf (last_bytes m blocks) last
 
+pub found_last : (m : ℕ) (blocks : List ℕ) (last : Last) → (0 < m) × (m ≤ length blocks) → LastOf (last_bytes m blocks) last → FoundLast m blocks last
+found_last m blocks last fits is = record { positive = fits.0; room = fits.1; found = is }
+
 module _ {m : ℕ} {blocks : List ℕ} {last : Last} (F : FoundLast m blocks last) where
   long : length (last_bytes m blocks) ≡ m
   long = rest-length (length blocks - m) blocks ∙ omega (arith, F.room)

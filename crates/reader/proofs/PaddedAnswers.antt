@@ -24,8 +24,7 @@ use Rattle.scheme.proofs.Laws.{answer_none, scheme_fields, held-told, most_full,
 use Rattle.family.specs.Padding.{end_place, end_refused}
 use Rattle.staircase.specs.Parameters.{Parameters, block, prefix_rows, parameters_with}
 use Rattle.staircase.specs.Exactness.{prefix_bytes, opened_string}
-use Rattle.reader.specs.declared.ending.End.{End}
-use Rattle.reader.specs.declared.ending.End.TheVariants.{At, Missing}
+use Rattle.std.proofs.Common.{Option, Some, None}
 use Rattle.reader.specs.declared.ending.Ending.TheVariants.{Sought}
 use Rattle.reader.specs.declared.taking.Take.TheVariants.{All}
 use Rattle.reader.specs.Decoding.{sent_bytes, Counted}
@@ -107,7 +106,7 @@ module _ {p : Parameters} {s : Scheme} {parties prefixes : List ℕ} {N : ℕ} (
 
   -- ---- what was opened
 
-  module _ (out : List ℕ) (end : End) (w : List ℕ) (O : OpenedBy Sought s.block 0 (opened_string (parameters_with s p.counts) parties N prefixes) out end w) where
+  module _ (out : List ℕ) (end : Option ℕ) (w : List ℕ) (O : OpenedBy Sought s.block 0 (opened_string (parameters_with s p.counts) parties N prefixes) out end w) where
     opened_is : opened_string (parameters_with s p.counts) parties N prefixes ≡ opened_padded p parties prefixes
     unfolding opened_padded
     opened_is = rw (T.scheme.n_is, T.scheme.r_is, T.scheme.z_is, T.N_is)
@@ -119,17 +118,17 @@ module _ {p : Parameters} {s : Scheme} {parties prefixes : List ℕ} {N : ℕ} (
     found_end = rw (opened_is, T.N_is, T.scheme.block_is) at (O.end_is N T.some long)
 
     -- no end: refusal 11 applies, and the output is as it was
-    pub ends_nowhere : end ≡ Missing → end_refused (block p) (blocks_sent p d (length prefixes)) (opened_padded p parties prefixes) ≡ true
+    pub ends_nowhere : end ≡ None → end_refused (block p) (blocks_sent p d (length prefixes)) (opened_padded p parties prefixes) ≡ true
     ends_nowhere e = rw e at found_end
 
-    pub unwritten : end ≡ Missing → w ≡ out
+    pub unwritten : end ≡ None → w ≡ out
     unwritten e = O.output_is ∙ rw e
 
-    pub ends_within : (message : ℕ) → end ≡ At message → end_refused (block p) (blocks_sent p d (length prefixes)) (opened_padded p parties prefixes) ≡ false
+    pub ends_within : (message : ℕ) → end ≡ Some message → end_refused (block p) (blocks_sent p d (length prefixes)) (opened_padded p parties prefixes) ≡ false
     ends_within message e = (rw e at found_end).0
 
     -- an end: it is answered, with the prefix bytes used, and the blocks are written
-    pub opens-padded : (used P message : ℕ) → P ≡ rows_of_count s.block p.z d → used ≡ d * (P * N) → end ≡ At message → length out ≡ N * s.block
+    pub opens-padded : (used P message : ℕ) → P ≡ rows_of_count s.block p.z d → used ≡ d * (P * N) → end ≡ Some message → length out ≡ N * s.block
         → reconstruct_padded_refusal p parties prefixes (length out) ≡ 0
         → (accepted (used ∷ message ∷ []) ≡ reconstruct_padded_answer p parties prefixes (length out)) × (w ≡ reconstruct_padded_output p parties prefixes out)
     unfolding reconstruct_padded_answer reconstruct_padded_output

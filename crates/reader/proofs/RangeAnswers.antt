@@ -19,7 +19,7 @@ use Rattle.staircase.specs.Exactness.{prefix_bytes, opened_string}
 use Rattle.staircase.proofs.Sizes.{blocks_are}
 use Rattle.order.specs.RowsTaken.{rows_taken}
 use Rattle.order.proofs.RowsTaken.{reached_all, taken_earliest}
-use Rattle.reader.specs.declared.ending.End.{End}
+use Rattle.std.proofs.Common.{Option}
 use Rattle.reader.specs.declared.ending.Ending.TheVariants.{Told}
 use Rattle.reader.specs.declared.taking.Take.{Take}
 use Rattle.reader.specs.declared.taking.Take.TheVariants.{All, Needed}
@@ -45,16 +45,16 @@ range_cut message start long l h =
     sym (rw whole at (ap (take long) (drop-take start (message - start) l)) ∙ take-take long (message - start) (drop start l) (omega arith))
 
 -- where the end is told, the output is the bytes from `start` on
-told-written : (m start : ℕ) (blocks before : List ℕ) (end : End) (after : List ℕ) → OpenedBy Told m start blocks before end after
+told-written : (m start : ℕ) (blocks before : List ℕ) (end : Option ℕ) (after : List ℕ) → OpenedBy Told m start blocks before end after
     → after ≡ take (length before) (drop start blocks)
-told-written m start blocks before end after O = O.output_is ∙ ap (λ (e : End). written_by e start blocks before) O.end_is
+told-written m start blocks before end after O = O.output_is ∙ ap (λ (e : Option ℕ). written_by e start blocks before) O.end_is
 
 -- accepted: the prefix bytes used are answered, and the range is written
 pub opens : (p : Parameters) (s : Scheme) → SchemeIs s p.n p.r p.z p.counts → (rows : Take) (message start long : ℕ) (parties prefixes out : List ℕ) (N many : ℕ)
     → N ≡ block_count s.block message
     → many ≡ rows_by rows (sent_rows s (length parties)) (rows_taken s.block s.z p.counts (length parties) start long)
     → range_refusal p message start long parties (length prefixes) (length out) ≡ 0 → length out ≡ long → start + long ≤ message
-    → (used : ℕ) (end : End) (w : List ℕ)
+    → (used : ℕ) (end : Option ℕ) (w : List ℕ)
     → used ≡ length parties * (many * N)
     → OpenedBy Told s.block start (opened_string (parameters_with s p.counts) parties N prefixes) out end w
     → (accepted (used ∷ []) ≡ opened_answer rows p message start long parties (length prefixes) (length out))

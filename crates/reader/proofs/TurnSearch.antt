@@ -4,6 +4,9 @@ use mathlib.Core.Path.{◌≡◌, sym, ap, ◌∙◌}
 use mathlib.Core.Bool.{Bool, true, false}
 use mathlib.Core.List.{List}
 use mathlib.Core.Logic.{⊎_elim}
+use Rattle.std.proofs.Common.{MatchBool}
+use Rattle.std.specs.List.{HoldsAt, AllWithin, range_with_len}
+use Rattle.std.proofs.lemmas.List.FromFn.{length-range_with_len, get_or-range_with_len}
 use Prim.Native.Nat.{ℕ, suc, ◌+◌, ◌-◌, ◌%◌, ◌≤◌, ◌<◌}
 use native.Mathlib.Nat.{add-mod_right, mod-eq_of_lt}
 use native.Mathlib.Omega.{arith}
@@ -35,22 +38,29 @@ module _ (m from place : ℕ) (low : from < m) (below : place < m) where
   pub around : place < from → (place + (m - from)) % m ≡ place + (m - from)
   around h = mod-eq_of_lt (let less : place + (m - from) < m = omega arith in less)
 
--- ---- the degrees of a row: no place of those passed is wanted
-
-abbrev pub NonePassed : ℕ → ℕ → ℕ → ℕ → List ℕ → ℕ → Type 0
-NonePassed m from long z places e = (start f : ℕ) → from ≡ start % m → z ≤ f → f < e → Wanted m start long (get_or places f 0) → ⊥
-
-pub none_passed : (m from long z : ℕ) (places : List ℕ) (e : ℕ) → get_or places e 0 < m → NonePassed m from long z places e
-    → long ≤ (get_or places e 0 + (m - from)) % m → NonePassed m from long z places (e + 1)
-none_passed m from long z places e below N far start f is low high W =
-    ⊎_elim (λ (h : f < e). N start f is low h W)
-    (λ (h : e ≤ f).
-    let same : f ≡ e = omega arith in
-    omega (arith, near_wanted m start long (get_or places e 0) below (rw same at W), rw is at far))
-    (lt_or_le f e)
+-- ---- the degrees of a row
 
 pub wanted_here : (m from long place start : ℕ) → place < m → from ≡ start % m → (place + (m - from)) % m < long → Wanted m start long place
 wanted_here m from long place start below is near = wanted_near m start long place below (rw is at near)
+
+-- one of the degrees from z up, below d, has a wanted place, or none has
+pub holds_by : (m from long z d start : ℕ) (places : List ℕ) (yes : Bool) → PlacesBelow z d m places → from ≡ start % m
+    → let all : List ℕ = range_with_len z (d - z) in
+    MatchBool yes ((k : ℕ) × (k < length all) × HoldsAt (λ e. (get_or places e 0 + (m - from)) % m < long) all k)
+    (AllWithin (λ e. long ≤ (get_or places e 0 + (m - from)) % m) all 0 (length all))
+    → HoldsWanted m start long z d places yes
+holds_by m from long z d start places true below is (k, inside, near) =
+    let few : k < d - z = omega (arith, length-range_with_len z (d - z)) in
+    let low : z ≤ z + k = omega arith in
+    let high : z + k < d = omega arith in
+    (z + k, low, high, wanted_here m from long (get_or places (z + k) 0) start (below (z + k) low high) is (rw (get_or-range_with_len z (d - z) k 0 few) at (near 0)))
+holds_by m from long z d start places false below is far =
+    λ e low high W.
+    let few : e - z < d - z = omega arith in
+    let at : z + (e - z) ≡ e = omega arith in
+    let none : long ≤ (get_or places e 0 + (m - from)) % m =
+    rw (get_or-range_with_len z (d - z) (e - z) 0 few, at) at (far (e - z) 0 (omega arith) (omega (arith, length-range_with_len z (d - z)))) in
+    omega (arith, near_wanted m start long (get_or places e 0) (below e low high) W, rw is at none)
 
 -- ---- the turns
 

@@ -18,15 +18,11 @@ use scheme::Scheme;
 
 // Writes the first bytes of a column, `many` of them, `step` apart from place `at` on.
 fn scatter(column: [u8; LANES], at: usize, step: usize, many: usize, work: &mut [u8])
-    requires { (many ≤ lanes) × (at + lanes * step ≤ decoding.max_usize) × ((k : ℕ) → k < many → at + k * step < length work.old) }
+    requires { (many ≤ lanes) × ((k : ℕ) → k < many → at + k * step < length work.old) }
     ensures { decoding.Scattered column at step many many work.old work.new }
 {
-    let mut k = 0;
-    let mut place = at;
-    while k < many {
-        work[place] = column[k];
-        place += step;
-        k += 1;
+    for k in 0..many {
+        work[at + k * step] = column[k];
     }
 }
 
@@ -44,12 +40,10 @@ pub(crate) fn known(
     requires { (d ≤ top) × (top ≤ side) × (t * m + m ≤ decoding.max_usize) × ((e : ℕ) → d ≤ e → e < top → get_or places.now e 0 < m) × (length columns.old ≡ side * lanes) }
     ensures { decoding.KnownColumns work.now places.now d top t m columns.new }
 {
-    let mut e = d;
-    while e < top {
+    for e in d..top {
         let at = e * LANES;
         let end = at + LANES;
         columns::gather_into(work, t * m + places[e], m, &mut columns[at..end]);
-        e += 1;
     }
 }
 
@@ -85,10 +79,7 @@ pub(crate) fn place_of(skip: usize, a: usize) -> usize
     requires { a < side }
     ensures { result ≡ skipped skip a }
 {
-    if a < skip {
-        return a;
-    }
-    a + 1
+    if a < skip { a } else { a + 1 }
 }
 
 // Copies bytes of a prefix into a column, and counts them.
@@ -118,14 +109,12 @@ pub(crate) fn load_parties(
     let d = sizes.d;
     let prefix = sizes.prefix;
     let skip = sizes.skip;
-    let mut a = 0;
-    while a < d {
+    for a in 0..d {
         let at = place_of(skip, a) * prefix + q;
         let after = at + many;
         let from = a * LANES;
         let end = from + many;
         load(&prefixes[at..after], used, &mut columns[from..end]);
-        a += 1;
     }
 }
 
@@ -147,12 +136,10 @@ pub(crate) fn solve_batch(
     requires blocks { (many ≤ lanes) × (t ≤ max_blocks) × (m ≤ max_block) × decoding.PlacesBelow z d m places.now × ((t + many) * m ≤ length work.old) }
     ensures { SolvesBatch columns.now weights.now places.now z d top t m many work.old work.new }
 {
-    let mut e = z;
-    while e < d {
+    for e in z..d {
         // With an end that the compiler knows it makes no test of the columns' number for each of them.
         let column = combine(&columns[..FLAT], weights, top, e);
         scatter(column, t * m + places[e], m, many, work);
-        e += 1;
     }
 }
 

@@ -17,12 +17,8 @@ fn in_first_column(chosen: &[u8; SIDE]) -> [[u8; SIDE]; SIDE]
     ensures { FirstColumn chosen.now result }
 {
     let mut table = [[0u8; SIDE]; SIDE];
-    let mut i = 0;
-    while i < SIDE {
-        let mut row = [0u8; SIDE];
-        row[0] = chosen[i];
-        table[i] = row;
-        i += 1;
+    for i in 0..SIDE {
+        table[i][0] = chosen[i];
     }
     table
 }

@@ -71,14 +71,7 @@ fn holds_wanted(
     requires { (block ≤ max_block) × (from < block) × (d ≤ side) × decoding.PlacesBelow z d block places.now }
     ensures { (start : ℕ) → from ≡ start % block → HoldsWanted block start range_length z d places.now result }
 {
-    let mut e = z;
-    while e < d {
-        if is_wanted(block, from, range_length, places[e]) {
-            return true;
-        }
-        e += 1;
-    }
-    false
+    (z..d).any(|e| is_wanted(block, from, range_length, places[e]))
 }
 
 // Is the byte at this place of a block one of the range? It is where it is less than the range's length away from the
@@ -88,7 +81,8 @@ fn is_wanted(block: usize, from: usize, range_length: usize, place: usize) -> bo
     ensures { result ≡ ltb ((place + (block - from)) % block) range_length }
 {
     if from <= place {
-        return place - from < range_length;
+        place - from < range_length
+    } else {
+        place + (block - from) < range_length
     }
-    place + (block - from) < range_length
 }

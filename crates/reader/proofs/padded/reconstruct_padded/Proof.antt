@@ -129,6 +129,6 @@ reconstruct_padded_spec =
     (λ c. search rules)
     (λ c.
     let out = (st (ordered c.before.before.before.before.before.before)).args.out.now in
-    let yes = ends_within (told c.before.before.before.before.before.before) out _ _ c.open-found.ensures.1 _ c.in-At.is in
+    let yes = ends_within (told c.before.before.before.before.before.before) out _ _ c.open-found.ensures.1 _ c.in-Some.is in
     let none = numbered (pass (is (ordered c.before.before.before.before.before.before)).passed (pass_false 6 (counted_test (ordered c.before.before.before.before.before.before)) (pass_false 7 (rising (ordered c.before.before.before.before.before.before)) (pass_false 9 (some_blocks (told c.before.before.before.before.before.before)) (pass_same 10 (c.if-out-size.false ∙ size_is (told c.before.before.before.before.before.before)) (pass_false 11 yes done)))))) in
-    opens-padded (told c.before.before.before.before.before.before) out _ _ c.open-found.ensures.1 _ _ _ (held c.before.before.before.before.before.before).rows_of_count-rows.ensures c.open-found.ensures.0 c.in-At.is c.if-out-size.false none))
+    opens-padded (told c.before.before.before.before.before.before) out _ _ c.open-found.ensures.1 _ _ _ (held c.before.before.before.before.before.before).rows_of_count-rows.ensures c.open-found.ensures.0 c.in-Some.is c.if-out-size.false none))

@@ -1,0 +1,6 @@
+use Rattle.reader.specs.Decoding.{Scattered}
+use Rattle.reader.proofs.decoding.scatter.Given as goal
+
+-- the first k bytes are written
+abbrev pub invariant-loop-k : goal.invariant-loop-k
+invariant-loop-k l = Scattered l.column l.at l.step l.many l.k l.initial.work l.work
