@@ -163,7 +163,14 @@ impl Lent<'_> {
             return 0;
         }
         for (i, party) in self.parties.iter().enumerate() {
-            let others = Lent { skip: i, ..*self };
+            // Written out: `..` is not for a struct with a ghost field.
+            let others = Lent {
+                scheme: self.scheme,
+                blocks: self.blocks,
+                parties: self.parties,
+                shares: self.shares,
+                skip: i,
+            };
             if others.agree(&others.weights(), work, share) {
                 return *party;
             }

@@ -62,14 +62,14 @@ pub(crate) struct Sizes {
 // Those of d prefixes of N blocks.
 pub(crate) fn sizes_of(s: Scheme, d: usize, skip: usize, blocks: usize) -> Sizes
     requires { decoding.sent_rows s d * blocks ≤ decoding.max_usize }
-    ensures { result ≡ decoding.sizes_of s d skip blocks }
+    ensures { result ≡ decoding.sizes_of s.entry d skip blocks }
 {
     Sizes {
-        z: s.z as usize,
+        z: usize::from(s.z),
         d,
         block: s.block,
         blocks,
-        prefix: scheme::rows_of_count(s.block, s.z, d) * blocks,
+        prefix: s.prefix_rows(d) * blocks,
         skip,
     }
 }
@@ -217,7 +217,6 @@ fn decode_row(
 // prefixes' bytes that were used.
 pub(crate) fn decode(
     s: Scheme,
-    counts: &[u8],
     d: usize,
     skip: usize,
     blocks: usize,
@@ -226,21 +225,19 @@ pub(crate) fn decode(
     prefixes: &[u8],
     work: &mut [u8],
 ) -> usize
-    requires { decoding.Input s counts.now d blocks (decoding.read_from s d blocks skip prefixes.now) × (many ≤ decoding.sent_rows s d) × (length work.old ≡ blocks * s.block) }
+    requires { decoding.Input s s.counts.now d blocks (decoding.read_from s d blocks skip prefixes.now) × (many ≤ decoding.sent_rows s d) × (length work.old ≡ blocks * s.block) }
     ensures counted { result ≡ d * (many * blocks) }
-    ensures found { decoding.EachSent s counts.now d blocks weights (decoding.read_from s d blocks skip prefixes.now) (λ B. decoding.Found s counts.now d blocks many B work.new) }
+    ensures found { decoding.EachSent s.entry s.entry.counts.now d blocks weights (decoding.read_from s.entry d blocks skip prefixes.now) (λ B. decoding.Found s.entry s.entry.counts.now d blocks many B work.new) }
 {
     let sizes = sizes_of(s, d, skip, blocks);
-    let groups = order::group_number(counts, d);
+    let groups = order::group_number(s.counts, d);
     let mut used = 0;
-    let mut turn = 0;
-    while turn < many {
-        let j = order::row_in_turn(s.block, s.z, counts, groups, turn);
+    for turn in 0..many {
+        let j = order::row_in_turn(s.block, s.z, s.counts, groups, turn);
         let mut places = [0usize; SIDE];
-        let top = rows::row_origins(s.block, s.z, counts, j, &mut places);
+        let top = rows::row_origins(s.block, s.z, s.counts, j, &mut places);
         let q = j * blocks;
         decode_row(sizes, prefixes, weights, &places, top, q, &mut used, work);
-        turn += 1;
     }
     used
 }

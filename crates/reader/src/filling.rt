@@ -72,7 +72,6 @@ fn fill_row(
 // decoded from the same prefixes, which are whole shares.
 pub(crate) fn fill_share(
     s: Scheme,
-    counts: &[u8],
     d: usize,
     skip: usize,
     blocks: usize,
@@ -81,19 +80,17 @@ pub(crate) fn fill_share(
     work: &[u8],
     out: &mut [u8],
 )
-    requires input { decoding.Input s counts.now d blocks (decoding.read_from s d blocks skip prefixes.now) × (decoding.sent_rows s d ≡ s.rows) }
+    requires input { decoding.Input s s.counts.now d blocks (decoding.read_from s d blocks skip prefixes.now) × (decoding.sent_rows s d ≡ s.rows) }
     requires room { length out.old ≡ s.rows * blocks }
-    ensures { FillsShare s counts.now d blocks chosen.now (decoding.read_from s d blocks skip prefixes.now) work.now out.new }
+    ensures { FillsShare s.entry s.entry.counts.now d blocks chosen.now (decoding.read_from s.entry d blocks skip prefixes.now) work.now out.new }
 {
     let rows = s.rows;
     let sizes = sizes_of(s, d, skip, blocks);
     let weights = in_first_column(chosen);
-    let mut j = 0;
-    while j < rows {
+    for j in 0..rows {
         let mut places = [0usize; SIDE];
-        let top = rows::row_origins(s.block, s.z, counts, j, &mut places);
+        let top = rows::row_origins(s.block, s.z, s.counts, j, &mut places);
         let q = j * blocks;
         fill_row(sizes, prefixes, &weights, &places, top, q, work, out);
-        j += 1;
     }
 }

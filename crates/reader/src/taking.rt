@@ -8,7 +8,6 @@ ghost use Rattle.reader.specs.Decoding as decoding;
 ghost use Rattle.reader.specs.Opening.{HoldsWanted, rows_by};
 
 use interpolation::SIDE;
-use lists::wide;
 use scheme::Scheme;
 
 // Which rows are taken.
@@ -22,38 +21,34 @@ pub(crate) enum Take {
 pub(crate) fn rows_by(
     take: Take,
     s: Scheme,
-    counts: &[u8],
     d: usize,
     start: usize,
     range_length: usize,
 ) -> usize
-    requires { decoding.Counted s counts.now d }
-    ensures { result ≡ rows_by take (decoding.sent_rows s d) (rows_taken s.block s.z counts.now d start range_length) }
+    requires { decoding.Counted s s.counts.now d }
+    ensures { result ≡ rows_by take (decoding.sent_rows s.entry d) (rows_taken s.entry.block s.entry.z s.entry.counts.now d start range_length) }
 {
     match take {
-        Take::All => scheme::rows_of_count(s.block, s.z, d),
-        Take::Needed => rows_taken(s, counts, d, start, range_length),
+        Take::All => s.prefix_rows(d),
+        Take::Needed => rows_taken(s, d, start, range_length),
     }
 }
 
 // The rows taken for a range: up to the last turn in which a byte of the range stands below degree d. Each byte does so
 // in one turn alone, and in no earlier turn it stands at all, so it is not known before.
-fn rows_taken(s: Scheme, counts: &[u8], d: usize, start: usize, range_length: usize) -> usize
-    requires { decoding.Counted s counts.now d }
-    ensures { result ≡ rows_taken s.block s.z counts.now d start range_length }
+fn rows_taken(s: Scheme, d: usize, start: usize, range_length: usize) -> usize
+    requires { decoding.Counted s s.counts.now d }
+    ensures { result ≡ rows_taken s.entry.block s.entry.z s.entry.counts.now d start range_length }
 {
-    let groups = order::group_number(counts, d);
+    let groups = order::group_number(s.counts, d);
     let from = start % s.block;
-    let mut taken = scheme::rows_of_count(s.block, s.z, d);
-    while 0 < taken {
-        let turn = taken - 1;
-        let j = order::row_in_turn(s.block, s.z, counts, groups, turn);
+    for turn in (0..s.prefix_rows(d)).rev() {
+        let j = order::row_in_turn(s.block, s.z, s.counts, groups, turn);
         let mut places = [0usize; SIDE];
-        rows::row_origins(s.block, s.z, counts, j, &mut places);
-        if holds_wanted(&places, wide(s.z), d, s.block, from, range_length) {
-            return taken;
+        rows::row_origins(s.block, s.z, s.counts, j, &mut places);
+        if holds_wanted(&places, usize::from(s.z), d, s.block, from, range_length) {
+            return turn + 1;
         }
-        taken = turn;
     }
     0
 }

@@ -4,7 +4,7 @@ use Rattle.std.proofs.Common.{◌≡◌, ℕ, ◌+◌, ◌-◌, ◌*◌, ◌≤�
 use Rattle.std.specs.Option.{is_some}
 use native.Mathlib.Nat.{one-mul, mul-le-mul_right, add-sub_cancel_left}
 use lib.Seq.{length-take-le, take_at}
-use Rattle.scheme.specs.declared.Scheme.{Scheme}
+use Rattle.scheme.specs.declared.accepted.Scheme.{Scheme}
 use Rattle.reader.specs.declared.ending.Ending.{Ending}
 use Rattle.reader.specs.declared.ending.Ending.TheVariants.{Told, Sought}
 use Rattle.reader.specs.Decoding.{Found}
