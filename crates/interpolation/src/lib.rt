@@ -1,16 +1,14 @@
 // Interpolation over bytes: the running value of a row, the Lagrange basis, and the weights of an opening.
 #![tactic(auto)]
 
-ghost use Rattle.std.specs.Prelude.{◌≡◌, ◌≢◌, true, ℕ, ◌+◌, ◌<◌, ◌≤◌, length, get_or, drop};
+ghost use Rattle.std.specs.Prelude.{◌≡◌, true, ℕ, ◌+◌, ◌<◌, ◌≤◌, length, get_or};
 ghost use Rattle.lists.specs.Each as each;
 ghost use Rattle.lists.specs.Table.{tabulate};
 ghost use Rattle.gf256.specs.Lanes.{lanes};
-ghost use Rattle.gf256.specs.declared.InverseAnswer.TheVariants.{NoInverse};
 ghost use Rattle.interpolation.specs.Polynomial as polynomial;
 ghost use Rattle.interpolation.specs.Interpolation.{side, weight, basis_table};
 ghost use Rattle.interpolation.specs.RowValue.{next_each};
 
-use gf256::InverseAnswer;
 use gf256::lanes::LANES;
 
 mod opening;
@@ -52,6 +50,8 @@ impl RowValue {
     {
         let values = self.values;
         let scaled = gf256::lanes::scale_each(values, self.point);
+        // An array that a call answers has a name first: the check does not cover it laid in a field or a
+        // variable that is there already.
         let sums = gf256::lanes::sum_each(coefficient, scaled);
         self.values = sums;
         self
@@ -82,10 +82,8 @@ pub(crate) fn basis_by(points: &[u8], product: [u8; SIDE + 1]) -> [[u8; SIDE]; S
     if !distinct(points) {
         return table;
     }
-    let mut i = 0;
-    while i < points.len() {
+    for i in 0..points.len() {
         table[i] = basis_row(product, points, i);
-        i += 1;
     }
     table
 }
@@ -97,9 +95,7 @@ pub(crate) fn vanishing(points: &[u8]) -> [u8; SIDE + 1]
 {
     let mut product = [0u8; SIDE + 1];
     product[0] = 1;
-    let mut j = points.len();
-    while 0 < j {
-        j -= 1;
+    for j in (0..points.len()).rev() {
         let longer = times_linear(product, points.len() - j, points[j]);
         product = longer;
     }
@@ -116,11 +112,9 @@ fn times_linear(poly: [u8; SIDE + 1], degree: usize, point: u8) -> [u8; SIDE + 1
 {
     let mut longer = [0u8; SIDE + 1];
     let mut lower: u8 = 0;
-    let mut e = 0;
-    while e <= degree {
+    for e in 0..degree + 1 {
         longer[e] = lower ^ gf256::mul_by_shifting(poly[e], point);
         lower = poly[e];
-        e += 1;
     }
     longer
 }
@@ -138,27 +132,14 @@ fn basis_row(product: [u8; SIDE + 1], points: &[u8], i: usize) -> [u8; SIDE]
     let mut quotient = [0u8; LANES];
     let mut above: u8 = 0;
     let mut value: u8 = 0;
-    let mut e = points.len();
-    while 0 < e {
-        above = product[e] ^ gf256::mul_by_shifting(above, point);
-        e -= 1;
+    for e in (0..points.len()).rev() {
+        above = product[e + 1] ^ gf256::mul_by_shifting(above, point);
         quotient[e] = above;
         value = above ^ gf256::mul_by_shifting(value, point);
     }
-    // The points are distinct, so the value is not 0.
-    let InverseAnswer::Inverse(factor) = gf256::inverse(value) else {
-        return not_reached(InverseAnswer::NoInverse);
-    };
+    // The points are distinct, so the value is not 0 and has an inverse.
+    let factor = gf256::inverse(value).unwrap();
     lowest(gf256::lanes::scale_each(quotient, factor))
-}
-
-// Stands where the code never comes. It is handed that there is no inverse, and requires that there is one: nobody can
-// show that, so whoever calls it has to prove that the place is not reached. Nothing comes back.
-fn not_reached(there: InverseAnswer) -> [u8; SIDE]
-    requires { there ≢ NoInverse }
-    ensures { there ≢ NoInverse }
-{
-    [0u8; SIDE]
 }
 
 // The first 16 of 64 bytes: a row of coefficients.
@@ -166,11 +147,7 @@ fn lowest(bytes: [u8; LANES]) -> [u8; SIDE]
     ensures { result ≡ polynomial.lowest side bytes }
 {
     let mut row = [0u8; SIDE];
-    let mut e = 0;
-    while e < SIDE {
-        row[e] = bytes[e];
-        e += 1;
-    }
+    row.copy_from_slice(&bytes[..SIDE]);
     row
 }
 
@@ -178,27 +155,10 @@ fn lowest(bytes: [u8; LANES]) -> [u8; SIDE]
 fn distinct(points: &[u8]) -> bool
     ensures { result ≡ each.distinct points.now }
 {
-    let mut i = 0;
-    while i < points.len() {
-        if stands_again(points, i) {
+    for i in 0..points.len() {
+        if points[i + 1..].contains(&points[i]) {
             return false;
         }
-        i += 1;
     }
     true
-}
-
-// Whether point i stands again after its place.
-fn stands_again(points: &[u8], i: usize) -> bool
-    requires { i < length points.now }
-    ensures { result ≡ each.occurs (get_or points.now i 0) (drop (i + 1) points.now) }
-{
-    let mut j = i + 1;
-    while j < points.len() {
-        if points[i] == points[j] {
-            return true;
-        }
-        j += 1;
-    }
-    false
 }

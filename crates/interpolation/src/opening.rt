@@ -8,7 +8,6 @@ ghost use Rattle.interpolation.specs.Interpolation.{side};
 ghost use Rattle.interpolation.specs.Opening.{opening_table, value_weight};
 
 use crate::SIDE;
-use lists::smaller;
 
 // These weights for a row of `top` coefficients that is read at d points: in row i below d the basis, and
 // from d up the weights of the known coefficient of degree i, which are what a division of x to the power i
@@ -24,16 +23,14 @@ pub fn opening_weights(points: &[u8], top: usize) -> [[u8; SIDE]; SIDE]
     }
     let product = crate::vanishing(points);
     let mut table = crate::basis_by(points, product);
-    let end = smaller(top, SIDE);
+    let end = top.min(SIDE);
     if end <= d {
         return table;
     }
     table[d] = first_remainder(product, d);
-    let mut i = d + 1;
-    while i < end {
+    for i in d + 1..end {
         let last = table[i - 1];
         table[i] = next_remainder(product, last, d);
-        i += 1;
     }
     table
 }
@@ -45,11 +42,7 @@ fn first_remainder(product: [u8; SIDE + 1], d: usize) -> [u8; SIDE]
     ensures { result ≡ polynomial.lowest side (take d product) }
 {
     let mut row = [0u8; SIDE];
-    let mut e = 0;
-    while e < d {
-        row[e] = product[e];
-        e += 1;
-    }
+    row[..d].copy_from_slice(&product[..d]);
     row
 }
 
@@ -66,11 +59,9 @@ fn next_remainder(product: [u8; SIDE + 1], last: [u8; SIDE], d: usize) -> [u8; S
     }
     let highest = last[d - 1];
     let mut lower: u8 = 0;
-    let mut e = 0;
-    while e < d {
+    for e in 0..d {
         row[e] = lower ^ gf256::mul_by_shifting(product[e], highest);
         lower = last[e];
-        e += 1;
     }
     row
 }
@@ -83,15 +74,13 @@ pub fn value_weights(weights: &[[u8; SIDE]; SIDE], d: usize, x: u8) -> [u8; SIDE
 {
     let mut chosen = [0u8; SIDE];
     let mut power: u8 = 1;
-    let mut i = 0;
-    while i < SIDE {
+    for i in 0..SIDE {
         let mut value = value_below(weights[i], d, x);
         if d <= i {
-            value = value ^ power;
+            value ^= power;
         }
         chosen[i] = value;
         power = gf256::mul_by_shifting(power, x);
-        i += 1;
     }
     chosen
 }
@@ -101,9 +90,7 @@ fn value_below(coefficients: [u8; SIDE], d: usize, x: u8) -> u8
     ensures { result ≡ polynomial.eval x (polynomial.lowest d coefficients) }
 {
     let mut value: u8 = 0;
-    let mut e = smaller(d, SIDE);
-    while 0 < e {
-        e -= 1;
+    for e in (0..d.min(SIDE)).rev() {
         value = coefficients[e] ^ gf256::mul_by_shifting(value, x);
     }
     value
