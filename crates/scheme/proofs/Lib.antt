@@ -8,6 +8,7 @@ mod SchemeFacts
 mod Parties
 mod Grounds
 mod Tried
+mod Forms
 mod Blocks
 pub mod Examples
 pub mod Laws
