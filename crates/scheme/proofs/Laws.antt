@@ -10,4 +10,4 @@ pub use Rattle.scheme.proofs.Parties.{readers_rise, readers_pass, parties_distin
 pub use Rattle.scheme.proofs.Grounds.{Reflects, Tested, end, line, line_then, refuted, above, other, either, both, no_count_lem, not-rising, after-scheme, after-accepted, none_first, first-once, first_other, first-before, first-after, accepted_none, refused-first, none_applies, first_applies, answered_by, check_answers, default_check_answers, refused-four}
 pub use Rattle.scheme.proofs.Tried.{tried_answers, default_tried_answers}
 pub use Rattle.scheme.proofs.Blocks.{padded_count_positive, padded_count_is, padded_count_full, padded_count_least, padded-count_of, padded_count_most, padded_count_few, most_full, held-told, held_quotient, held_of, none_gives}
-pub use Rattle.scheme.proofs.Forms.{blocks_told, blocks_refused}
+pub use Rattle.scheme.proofs.BlocksTold.{blocks_told, blocks_refused}

@@ -8,7 +8,7 @@ mod SchemeFacts
 mod Parties
 mod Grounds
 mod Tried
-mod Forms
+mod BlocksTold
 mod Blocks
 pub mod Examples
 pub mod Laws
