@@ -1,6 +1,11 @@
+use Rattle.std.proofs.Common.{ap, ◌∙◌}
+use Rattle.interpolation.specs.Interpolation.{basis_table}
 use Rattle.interpolation.proofs.Rows.{zeros, zero-rows, too_many}
 use Rattle.interpolation.proofs.basis.Goals as goal
 
-pub returns-then-points-gt-SIDE : goal.returns-then-points-gt-SIDE
+pub returns-in_default : goal.returns-in_default
 unfolding zeros zero-rows
-returns-then-points-gt-SIDE c = too_many _ c.if-points-gt-SIDE.true
+returns-in_default c = too_many _ c.in_default.ensures
+
+pub returns : goal.returns
+returns c = c.basis.ensures ∙ ap basis_table c.in-Some.ensures

@@ -1,6 +1,6 @@
 use Rattle.std.proofs.Common.{◌≡◌, ◌-◌, arith, ap, ◌∙◌}
 use Rattle.interpolation.proofs.Table.{product_from, product_none, product_degree, product_more}
-use Rattle.interpolation.proofs.vanishing.Goals as goal
+use Rattle.interpolation.proofs.points.vanishing.Goals as goal
 
 pub loop-j-init : goal.loop-j-init
 loop-j-init c = product_none c.args.points.now

@@ -2,7 +2,7 @@ use Rattle.std.proofs.Common.{◌≡◌, ◌+◌, ◌≤◌, ◌<◌, ◌∷◌,
 use Rattle.lists.proofs.Known.{Known}
 use Rattle.interpolation.specs.Polynomial.{linear}
 use Rattle.interpolation.specs.Interpolation.{side}
-use Rattle.interpolation.proofs.times_linear.Given as goal
+use Rattle.interpolation.proofs.points.times_linear.Given as goal
 
 -- the coefficients below e are right, and those above the degree, which stay zero; `lower` is the one of the given polynomial before e, 0 at the start
 abbrev pub invariant-loop-e : goal.invariant-loop-e

@@ -6,7 +6,7 @@ use Rattle.gf256.specs.Byte.{◌⊕◌}
 use Rattle.gf256.proofs.Laws.{⊗_comm}
 use Rattle.interpolation.specs.Interpolation.{side}
 use Rattle.interpolation.proofs.Table.{linear-at, linear_beyond}
-use Rattle.interpolation.proofs.times_linear.Goals as goal
+use Rattle.interpolation.proofs.points.times_linear.Goals as goal
 
 pub loop-e-init : goal.loop-e-init
 loop-e-init c = (record { long = refl; is = λ k l b. replicate-at (side + 1) k 0 ∙ sym (linear_beyond _ _ _ c.requires.1 k (b (omega arith))) }, refl)

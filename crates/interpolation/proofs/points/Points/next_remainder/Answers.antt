@@ -6,11 +6,11 @@ use Rattle.gf256.specs.Byte.{◌⊕◌}
 use Rattle.gf256.proofs.Laws.{⊗_comm}
 use Rattle.interpolation.specs.Interpolation.{side}
 use Rattle.interpolation.proofs.Remainders.{raised_at}
-use Rattle.interpolation.proofs.OpeningRows.{taken_none, taken-zero}
-use Rattle.interpolation.proofs.opening.next_remainder.Goals as goal
+use Rattle.interpolation.proofs.OpeningRows.{taken_none, taken-zero, next_row}
+use Rattle.interpolation.proofs.points.Points.next_remainder.Goals as goal
 
 pub returns-then-d-eq0 : goal.returns-then-d-eq0
-returns-then-d-eq0 c = taken-zero side _ _ c.if-d-eq0.true
+returns-then-d-eq0 c = λ k q. taken-zero side _ _ c.if-d-eq0.true ∙ next_row _ _ c.args.self.now.few c.args.self.now.over_all k _ q
 
 pub loop-e-init : goal.loop-e-init
 loop-e-init c = (taken_none side _ _, refl)
@@ -26,4 +26,4 @@ loop-e-preserved c = (
 )
 
 pub returns : goal.returns
-returns c = known-all c.loop-e.invariant.0 (λ k l j. omega arith)
+returns c = λ k q. known-all c.loop-e.invariant.0 (λ k l j. omega arith) ∙ next_row _ _ c.args.self.now.few c.args.self.now.over_all k _ q

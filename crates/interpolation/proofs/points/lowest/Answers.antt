@@ -3,7 +3,7 @@ use Rattle.lists.proofs.Arrays.{array_length}
 use Rattle.lists.proofs.Parts.{take-tabulate}
 use Rattle.gf256.specs.Lanes.{lanes}
 use Rattle.interpolation.specs.Interpolation.{side}
-use Rattle.interpolation.proofs.lowest.Goals as goal
+use Rattle.interpolation.proofs.points.lowest.Goals as goal
 
 pub returns : goal.returns
 returns c =

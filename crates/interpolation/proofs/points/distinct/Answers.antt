@@ -7,7 +7,7 @@ use borrow.Author.Tests.{eq-eqb, ne_eqb}
 use Rattle.std.specs.List.{list_any}
 use Rattle.lists.specs.Each.{occurs}
 use Rattle.lists.proofs.Search.{distinct_end, distinct_here, distinct-next}
-use Rattle.interpolation.proofs.distinct.Goals as goal
+use Rattle.interpolation.proofs.points.distinct.Goals as goal
 
 eqb-flip : (x y : ℕ) → eqb x y ≡ eqb y x
 eqb-flip x y = at (ℕ_discrete x y)

@@ -6,14 +6,14 @@ use Rattle.gf256.specs.Byte.{◌⊕◌}
 use Rattle.interpolation.specs.Polynomial.{lowest}
 use Rattle.interpolation.specs.Interpolation.{side}
 use Rattle.interpolation.proofs.Row.{divided_none, divided_more, divided_invertible, divided_row}
-use Rattle.interpolation.proofs.basis_row.Goals as goal
+use Rattle.interpolation.proofs.points.Points.row.Goals as goal
 
 some : (answer : Option ℕ) → answer ≢ None → IsSome answer
 some (Some x) other = refl
 some None other = absurd (other refl)
 
 pub loop-e-init : goal.loop-e-init
-loop-e-init c = divided_none _ _ c.requires.i_in_bounds.0 c.requires.i_in_bounds.1
+loop-e-init c = divided_none _ _ c.requires.0 c.args.self.now.few
 
 pub loop-e-preserved : goal.loop-e-preserved
 unfolding ◌⊕◌
@@ -21,17 +21,17 @@ loop-e-preserved c =
     let r = c.requires in
     let next : c.loop-e.e - 1 + 1 ≡ c.loop-e.e = omega arith in
     rw next
-    (divided_more _ _ r.i_in_bounds.0 r.i_in_bounds.1 (c.loop-e.e - 1) c.loop-e.e _ _ _ _ _ _ (omega arith) r.product_value c.loop-e.invariant c.mul_by_shifting.ensures c.mul_by_shifting-in-loop-e.ensures)
+    (divided_more _ _ r.0 c.args.self.now.few (c.loop-e.e - 1) c.loop-e.e _ _ _ _ _ _ (omega arith) c.args.self.now.over_all c.loop-e.invariant c.mul_by_shifting.ensures c.mul_by_shifting-in-loop-e.ensures)
 
 pub unwrap-factor-requires : goal.unwrap-factor-requires
 unwrap-factor-requires c =
-    let r = c.requires.i_in_bounds in
-    let bytes : Each Byte c.args.points.now = each_of Byte c.args.points.now 0 (λ k b. (c.type_inv.points k).fits) in
-    some _ (rw c.inverse.ensures (divided_invertible _ _ r.0 r.1 r.2 bytes c.loop-e-test.false c.loop-e.invariant))
+    let r = c.requires in
+    let bytes : Each Byte c.args.self.now.all.now = each_of Byte c.args.self.now.all.now 0 (λ k b. c.args.self.now.bytes k) in
+    some _ (rw c.inverse.ensures (divided_invertible _ _ r.0 c.args.self.now.few r.1 bytes c.loop-e-test.false c.loop-e.invariant))
 
 pub returns : goal.returns
 returns c =
-    let r = c.requires.i_in_bounds in
-    let bytes : Each Byte c.args.points.now = each_of Byte c.args.points.now 0 (λ k b. (c.type_inv.points k).fits) in
+    let r = c.requires in
+    let bytes : Each Byte c.args.self.now.all.now = each_of Byte c.args.self.now.all.now 0 (λ k b. c.args.self.now.bytes k) in
     c.lowest.ensures ∙ ap (lowest side) c.scale_each.ensures
-    ∙ divided_row _ _ r.0 r.1 r.2 bytes c.loop-e-test.false c.loop-e.invariant _ (sym c.inverse.ensures ∙ c.unwrap-factor.ensures)
+    ∙ divided_row _ _ r.0 c.args.self.now.few r.1 bytes c.loop-e-test.false c.loop-e.invariant _ (sym c.inverse.ensures ∙ c.unwrap-factor.ensures)
