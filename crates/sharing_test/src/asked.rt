@@ -42,16 +42,16 @@ fn with_scheme(
 }
 
 fn show(rt: &impl Print, length: usize, answer: LengthsAnswer) -> io::Result<()> {
-    printing::number(rt, "length ", length as u64)?;
+    printing::number(rt, "length ", length)?;
     match answer {
         LengthsAnswer::Lengths(l) => {
-            printing::number(rt, " blocks ", l.blocks as u64)?;
-            printing::number(rt, " keys ", l.keys as u64)?;
-            printing::number(rt, " share ", l.share as u64)?;
-            printing::number(rt, " output ", l.output as u64)?;
-            printing::number(rt, " opened ", l.opened as u64)?;
+            printing::number(rt, " blocks ", l.blocks)?;
+            printing::number(rt, " keys ", l.keys)?;
+            printing::number(rt, " share ", l.share)?;
+            printing::number(rt, " output ", l.output)?;
+            printing::number(rt, " opened ", l.opened)?;
         }
-        LengthsAnswer::Refused(refusal) => printing::number(rt, " refused ", refusal as u64)?,
+        LengthsAnswer::Refused(refusal) => printing::number(rt, " refused ", usize::from(refusal))?,
     }
     printing::word(rt, "\n")
 }

@@ -28,22 +28,8 @@ fn show(rt: &impl Print, n: u8, r: u8, z: u8, counts: &[u8], parties: &[u8]) -> 
 }
 
 fn show_table(rt: &impl Print, table: [[u8; 16]; 16]) -> io::Result<()> {
-    if all_zero(table) {
+    if table == [[0; 16]; 16] {
         printing::word(rt, ", all zero")?;
     }
-    let first = table[0];
-    let second = table[1];
-    printing::bytes(rt, &[first[0], first[1], second[0], second[1]])
-}
-
-fn all_zero(table: [[u8; 16]; 16]) -> bool {
-    let mut k = 0;
-    while k < 256 {
-        let row = table[k / 16];
-        if row[k % 16] != 0 {
-            return false;
-        }
-        k += 1;
-    }
-    true
+    printing::bytes(rt, &[table[0][0], table[0][1], table[1][0], table[1][1]])
 }

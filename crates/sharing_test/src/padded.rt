@@ -82,12 +82,12 @@ fn show_opening(rt: &impl Print, parties: &[u8], prefixes: &[u8]) -> io::Result<
 
 pub(crate) fn show_answer(rt: &impl Print, answer: PaddedAnswer) -> io::Result<()> {
     match answer {
-        PaddedAnswer::Opened { used, length } => show_numbers(rt, used as u64, length as u64),
-        PaddedAnswer::Refused(number) => printing::number(rt, "refused ", number as u64),
+        PaddedAnswer::Opened { used, length } => show_numbers(rt, used, length),
+        PaddedAnswer::Refused(number) => printing::number(rt, "refused ", usize::from(number)),
     }
 }
 
-fn show_numbers(rt: &impl Print, used: u64, length: u64) -> io::Result<()> {
+fn show_numbers(rt: &impl Print, used: usize, length: usize) -> io::Result<()> {
     printing::number(rt, "padded used ", used)?;
     printing::number(rt, ", length ", length)?;
     printing::word(rt, ",")

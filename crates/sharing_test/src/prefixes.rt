@@ -74,7 +74,7 @@ pub(crate) fn print(
     part: usize,
 ) -> io::Result<()> {
     printing::answer(rt, text, length)?;
-    printing::number(rt, " of ", share as u64)?;
-    printing::number(rt, ", handed ", part as u64)?;
+    printing::number(rt, " of ", share)?;
+    printing::number(rt, ", handed ", part)?;
     printing::bytes(rt, &[])
 }
