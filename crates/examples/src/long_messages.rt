@@ -21,10 +21,8 @@ pub(crate) fn too_long(rt: &impl Print) -> io::Result<()> {
 
 // Bytes that differ from place to place.
 fn fill(bytes: &mut [u8]) {
-    let mut i = 0;
-    while i < bytes.len() {
-        bytes[i] = (i % 251) as u8;
-        i += 1;
+    for (i, byte) in bytes.iter_mut().enumerate() {
+        *byte = (i % 251) as u8;
     }
 }
 
@@ -46,7 +44,7 @@ fn show_back(rt: &impl Print, message: &[u8], shares: &[u8], out: &mut [u8]) -> 
     let prefixes = part(shares, 0, 49158);
     let used = sharing::reconstruct_default(message.len(), &[1, 2, 3], prefixes, out);
     printing::answer(rt, " used", used)?;
-    if check::same(message, out) {
+    if message == out {
         printing::word(rt, " the same message")?;
     }
     printing::end_line(rt)

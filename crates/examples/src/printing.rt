@@ -15,15 +15,13 @@ pub(crate) fn number(rt: &impl Print, text: &str, value: usize) -> io::Result<()
 }
 
 pub(crate) fn byte(rt: &impl Print, text: &str, value: u8) -> io::Result<()> {
-    number(rt, text, value as usize)
+    number(rt, text, usize::from(value))
 }
 
 pub(crate) fn bytes(rt: &impl Print, text: &str, values: &[u8]) -> io::Result<()> {
     word(rt, text)?;
-    let mut i = 0;
-    while i < values.len() {
-        byte(rt, "", values[i])?;
-        i += 1;
+    for &value in values {
+        byte(rt, "", value)?;
     }
     Ok(())
 }

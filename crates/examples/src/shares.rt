@@ -47,11 +47,5 @@ fn split(rt: &impl Print, message: &[u8], keys: &[u8], out: &mut [u8]) -> io::Re
 
 // The bytes from one place up to another, or all of them where there are no such places.
 pub(crate) fn part(bytes: &[u8], from: usize, to: usize) -> &[u8] {
-    if bytes.len() < to {
-        return bytes;
-    }
-    if to < from {
-        return bytes;
-    }
-    &bytes[from..to]
+    bytes.get(from..to).unwrap_or(bytes)
 }
