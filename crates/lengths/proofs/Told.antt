@@ -1,13 +1,11 @@
 -- What is told of a message's lengths, and where they are refused: past the tests the scheme is accepted and the message is not too long.
 -- Assumes nothing.
-use mathlib.Core.Path.{◌≡◌, refl, ap, ◌∙◌}
-use mathlib.Core.Bool.{Bool, true, false, cond}
+use mathlib.Core.Path.{◌≡◌, ap, ◌∙◌}
 use mathlib.Core.List.{[], ◌∷◌}
 use Prim.Native.Nat.{ℕ, ◌*◌, ◌≤◌, ◌<◌}
 use native.Mathlib.Nat.{div-le_self}
 use native.Mathlib.Omega.{arith}
-use lib.Dec.{ltb}
-use borrow.Author.Tests.{ltb-false, ltb-true}
+use borrow.Author.Tests.{ltb-false}
 use Rattle.std.specs.Prelude.{Ok, Err}
 use Rattle.scheme.specs.declared.refusal.Refusal.{Refusal}
 use Rattle.scheme.specs.declared.refusal.Refusal.TheVariants.{MessageLength}
@@ -15,13 +13,13 @@ use Rattle.scheme.specs.declared.forms.Form.{Form}
 use Rattle.scheme.specs.declared.forms.Form.TheVariants.{Earlier, Padded}
 use Rattle.scheme.specs.declared.accepted.Scheme.{Scheme}
 use Rattle.scheme.specs.Facts.{SchemeIs}
-use Rattle.scheme.specs.Forms.{blocks_of_length, blocks_answer}
+use Rattle.scheme.specs.Forms.{blocks_answer}
 use Rattle.scheme.specs.Limits.{max_block, max_message, max_blocks}
 use Rattle.scheme.specs.Refusals.{number}
 use Rattle.scheme.specs.Outcome.{accepted, refused}
 use Rattle.scheme.specs.Padding.{padded_count}
 use Rattle.scheme.specs.Check.{checked}
-use Rattle.scheme.proofs.Laws.{scheme_own, answers, done, pass, stop_scheme, stop_over, pass_within, first_none, first_if}
+use Rattle.scheme.proofs.Laws.{blocks_told, blocks_refused, scheme_own, answers, done, pass, stop_scheme, stop_over, pass_within, first_none, first_if}
 use Rattle.staircase.specs.Parameters.{Parameters, AcceptedScheme, parameters_of}
 use Rattle.staircase.proofs.Sizes.{block_most, blocks_few, rows_most}
 use Rattle.lengths.specs.declared.MessageLengths.{MessageLengths}
@@ -33,28 +31,8 @@ none_refused p message e =
     let scheme = first_none _ _ e in
     (scheme.0, ltb-false max_message message (first_if _ _ _ scheme.1).0)
 
--- ---- what the scheme says of the blocks: they are told of a message that is not too long
+-- ---- the blocks of a message that is not too long are few, with few rows and bytes each
 
-module _ (form : Form) (m message : ℕ) where
-  pub blocks_told : (N : ℕ) → Ok N ≡ blocks_answer form m message → (N ≡ blocks_of_length form m message) × (message ≤ max_message)
-  unfolding blocks_answer
-  blocks_told N = go (ltb max_message message) refl
-    where
-      go : (t : Bool) → ltb max_message message ≡ t → Ok N ≡ cond t (Err MessageLength) (Ok (blocks_of_length form m message))
-          → (N ≡ blocks_of_length form m message) × (message ≤ max_message)
-      go true f e = absurd (cc e)
-      go false f e = (cc e, ltb-false _ _ f)
-
-  pub too-long : (q : Refusal) → Err q ≡ blocks_answer form m message → (q ≡ MessageLength) × (max_message < message)
-  unfolding blocks_answer
-  too-long q = go (ltb max_message message) refl
-    where
-      go : (t : Bool) → ltb max_message message ≡ t → Err q ≡ cond t (Err MessageLength) (Ok (blocks_of_length form m message))
-          → (q ≡ MessageLength) × (max_message < message)
-      go true f e = (cc e, ltb-true _ _ f)
-      go false f e = absurd (cc e)
-
--- and they are few, with few rows and bytes each
 pub block_small : (s : Scheme) → s.block ≤ max_block
 block_small s = rw s.accepted.block_is (block_most (parameters_of s) s.accepted.passed)
 
@@ -92,8 +70,8 @@ module _ (p : Parameters) (message : ℕ) where
     for-long q e above N opened = rw e (answers (pass is.passed (stop_over above)))
 
     pub long : (form : Form) (q : Refusal) → Err q ≡ blocks_answer form s.block message → refused (number q) ≡ lengths_in form p message
-    long Earlier q e = let told = too-long Earlier s.block message q e in for-long q told.0 told.1 _ _
-    long Padded q e = let told = too-long Padded s.block message q e in for-long q told.0 told.1 _ _
+    long Earlier q e = let told = blocks_refused Earlier s.block message q e in for-long q told.0 told.1 _ _
+    long Padded q e = let told = blocks_refused Padded s.block message q e in for-long q told.0 told.1 _ _
 
     for-told : message ≤ max_message → (N opened : ℕ) (l : MessageLengths)
         → lengths_values l ≡ N ∷ N * s.z * s.rows ∷ N * s.rows ∷ s.n * N * s.rows ∷ opened ∷ []
