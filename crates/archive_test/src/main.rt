@@ -2,7 +2,7 @@
 // text. Then it damages the file.
 #![tactic(auto)]
 
-use sharing::Answer;
+use sharing::Refusal;
 use std::io;
 
 fn main(rt: HostRuntime) -> io::Result<()> {
@@ -54,9 +54,12 @@ fn entry(rt: &impl Print, file: &[u8], number: usize) -> io::Result<()> {
     println!(rt)
 }
 
-fn told(rt: &impl Print, answer: Answer) -> io::Result<()> {
+fn told(rt: &impl Print, answer: Result<usize, Refusal>) -> io::Result<()> {
     match answer {
-        Answer::Value(value) => println!(rt; "value {value}"),
-        Answer::Refused(refusal) => println!(rt; "refused {refusal}"),
+        Ok(value) => println!(rt; "value {value}"),
+        Err(refusal) => {
+            let number = refusal.number();
+            println!(rt; "refused {number}")
+        }
     }
 }

@@ -9,7 +9,6 @@ mod printing;
 mod schemes;
 mod shares;
 
-use gf256::InverseAnswer;
 use std::io;
 
 fn main(rt: HostRuntime) -> io::Result<()> {
@@ -41,7 +40,7 @@ fn print_product(rt: &impl Print, a: u8, b: u8) -> io::Result<()> {
 }
 
 fn print_inverse(rt: &impl Print, a: u8) -> io::Result<()> {
-    let InverseAnswer::Inverse(x) = gf256::inverse(a) else {
+    let Some(x) = gf256::inverse(a) else {
         return println!(rt; "inverse of {a:02x}: none");
     };
     println!(rt; "inverse of {a:02x} = {x:02x}")

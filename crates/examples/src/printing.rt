@@ -1,5 +1,5 @@
 // What is printed: words, each followed by numbers in decimal.
-use sharing::Answer;
+use sharing::Refusal;
 use std::io;
 
 pub(crate) fn word(rt: &impl Print, text: &str) -> io::Result<()> {
@@ -26,14 +26,18 @@ pub(crate) fn bytes(rt: &impl Print, text: &str, values: &[u8]) -> io::Result<()
     Ok(())
 }
 
-pub(crate) fn refused(rt: &impl Print, number: u8) -> io::Result<()> {
-    byte(rt, " refused", number)
+pub(crate) fn refused(rt: &impl Print, refusal: Refusal) -> io::Result<()> {
+    byte(rt, " refused", refusal.number())
 }
 
 // A call's answer, with a word for what it answers when it is accepted.
-pub(crate) fn answer(rt: &impl Print, text: &str, answer: Answer) -> io::Result<()> {
+pub(crate) fn answer(
+    rt: &impl Print,
+    text: &str,
+    answer: Result<usize, Refusal>,
+) -> io::Result<()> {
     match answer {
-        Answer::Value(value) => number(rt, text, value),
-        Answer::Refused(number) => refused(rt, number),
+        Ok(value) => number(rt, text, value),
+        Err(refusal) => refused(rt, refusal),
     }
 }

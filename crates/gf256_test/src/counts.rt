@@ -2,7 +2,6 @@
 ghost use Rattle.std.specs.Prelude.{◌≡◌, ◌≤◌};
 ghost use Rattle.gf256.specs.Lanes.{lanes};
 
-use gf256::InverseAnswer;
 use gf256::lanes::LANES;
 
 // The pairs of bytes, of all, on which the product by tables and that by shifting differ: proved to be none, and
@@ -23,10 +22,7 @@ pub(crate) fn different_products() -> usize
 
 // Has the byte an inverse, and does it give 1 times it?
 fn inverted(a: u8) -> bool {
-    let InverseAnswer::Inverse(x) = gf256::inverse(a) else {
-        return false;
-    };
-    gf256::mul(a, x) == 1
+    gf256::inverse(a).is_some_and(|x| gf256::mul(a, x) == 1)
 }
 
 // How many of the 256 bytes give 1 times their inverse.

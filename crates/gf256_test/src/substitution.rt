@@ -1,13 +1,9 @@
 // The byte substitution of FIPS 197 section 5.1.1, made from `inverse`.
-use gf256::InverseAnswer;
 use std::io;
 
 // The inverse of a byte, and of 0, which has none, 0.
 fn inverse_or_zero(a: u8) -> u8 {
-    match gf256::inverse(a) {
-        InverseAnswer::Inverse(x) => x,
-        InverseAnswer::NoInverse => 0,
-    }
+    gf256::inverse(a).unwrap_or(0)
 }
 
 // That, and then the affine map: bit i of the result is the sum of bits i, i + 4, i + 5, i + 6 and i + 7,

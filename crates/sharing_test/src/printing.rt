@@ -1,12 +1,16 @@
 // What is printed: words and numbers in decimal.
-use sharing::Answer;
+use sharing::Refusal;
 use std::io;
 
 // An answer, with a word for what it is when the call is accepted.
-pub(crate) fn answer(rt: &impl Print, text: &str, answer: Answer) -> io::Result<()> {
+pub(crate) fn answer(
+    rt: &impl Print,
+    text: &str,
+    answer: Result<usize, Refusal>,
+) -> io::Result<()> {
     match answer {
-        Answer::Value(value) => number(rt, text, value),
-        Answer::Refused(refusal) => number(rt, "refused ", usize::from(refusal)),
+        Ok(value) => number(rt, text, value),
+        Err(refusal) => number(rt, "refused ", usize::from(refusal.number())),
     }
 }
 
