@@ -1,17 +1,16 @@
 -- The search for the rows taken, in the code's numbers: from the last turn down to one in which a wanted byte stands below degree d.
 -- Assumes nothing.
-use mathlib.Core.Path.{◌≡◌, sym, ap, ◌∙◌}
+use mathlib.Core.Path.{◌≡◌, ap, ◌∙◌}
 use mathlib.Core.Bool.{Bool, true, false}
 use mathlib.Core.List.{List}
-use mathlib.Core.Logic.{⊎_elim}
 use Rattle.std.proofs.Common.{MatchBool}
 use Rattle.std.specs.List.{HoldsAt, AllWithin, range_with_len}
 use Rattle.std.proofs.lemmas.List.FromFn.{length-range_with_len, get_or-range_with_len}
 use Prim.Native.Nat.{ℕ, suc, ◌+◌, ◌-◌, ◌%◌, ◌≤◌, ◌<◌}
 use native.Mathlib.Nat.{add-mod_right, mod-eq_of_lt}
+use native.Mathlib.Numerals.{add-one}
 use native.Mathlib.Omega.{arith}
 use lib.ListN.{length, get_or}
-use Rattle.lists.proofs.Tests.{lt_or_le}
 use Rattle.interpolation.specs.Interpolation.{side}
 use Rattle.scheme.specs.declared.accepted.Scheme.{Scheme}
 use Rattle.staircase.specs.Coefficients.{count_of, origin}
@@ -99,10 +98,10 @@ module _ {s : Scheme} {ds : List ℕ} {d : ℕ} (C : Counted s ds d) (start long
           let none = rw e at H in
           taken.none_more (count_in C) start long (t - 1) (rw next N) (λ f low high W. none f low high (rw (origin-at f low high) W))
 
-      pub found_here : yes ≡ true → t ≡ rows_taken s.block s.z ds d start long
+      pub found_here : yes ≡ true → t - 1 + 1 ≡ rows_taken s.block s.z ds d start long
       found_here e =
           let some = rw e at H in
-          sym next
+          add-one (t - 1)
           ∙ taken.taken_here (count_in C) start long (t - 1) some.0 here some.1 some.2 (rw (origin-at some.0 some.1 some.2) at some.3)
           (rw next N)
 

@@ -76,16 +76,7 @@ pub(crate) fn open_range(
         return Err(Refusal::OutputLength);
     }
     let many = rows_by(take, s, d, start, range_length);
-    let found = open(
-        s,
-        blocks,
-        many,
-        parties,
-        prefixes,
-        Ending::Told,
-        start,
-        out,
-    );
+    let found = open(s, blocks, many, parties, prefixes, Ending::Told, start, out);
     Ok(found.used)
 }
 

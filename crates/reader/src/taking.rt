@@ -18,13 +18,7 @@ pub(crate) enum Take {
 }
 
 // The number of rows that are taken, of those that d parties send.
-pub(crate) fn rows_by(
-    take: Take,
-    s: Scheme,
-    d: usize,
-    start: usize,
-    range_length: usize,
-) -> usize
+pub(crate) fn rows_by(take: Take, s: Scheme, d: usize, start: usize, range_length: usize) -> usize
     requires { decoding.Counted s s.counts.now d }
     ensures { result ≡ rows_by take (decoding.sent_rows s.entry d) (rows_taken s.entry.block s.entry.z s.entry.counts.now d start range_length) }
 {

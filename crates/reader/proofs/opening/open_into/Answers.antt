@@ -57,7 +57,7 @@ end_by-end-requires c =
 pub returns-then-is_some-clause-opened : goal.returns-then-is_some-clause-opened
 returns-then-is_some-clause-opened c B K points W X =
     let a = c.args in
-    opened_some a.how a.s a.counts.now a.d a.blocks a.many a.start c.decode-used.new.work _ B a.out.now
+    opened_some a.how a.s a.s.counts.now a.d a.blocks a.many a.start c.decode-used.new.work _ B a.out.now
     c.requires.rows (c.decode-used.ensures.found B K points W (sent_whole c.requires.sizes.0 X)) c.requires.sizes.2 X.blocks_are.0
     (c.decode-used.auto.work ∙ length-take-le _ a.work.now c.requires.sizes.1) c.end_by-end.result _ c.requires.sizes.3 c.end_by-end.ensures
     (sym c.is_some.ensures ∙ c.if-is_some.true) c.copy_from_slice.ensures.after
@@ -65,7 +65,7 @@ returns-then-is_some-clause-opened c B K points W X =
 pub returns-else-is_some-clause-opened : goal.returns-else-is_some-clause-opened
 returns-else-is_some-clause-opened c B K points W X =
     let a = c.args in
-    opened_none a.how a.s a.counts.now a.d a.blocks a.many a.start c.decode-used.new.work _ B a.out.now
+    opened_none a.how a.s a.s.counts.now a.d a.blocks a.many a.start c.decode-used.new.work _ B a.out.now
     c.requires.rows (c.decode-used.ensures.found B K points W (sent_whole c.requires.sizes.0 X)) c.requires.sizes.2 X.blocks_are.0
     (c.decode-used.auto.work ∙ length-take-le _ a.work.now c.requires.sizes.1) c.end_by-end.result c.requires.sizes.3 c.end_by-end.ensures
     (sym c.is_some.ensures ∙ c.if-is_some.false)

@@ -1,0 +1,41 @@
+-- The parties are at most 16, and the opened blocks have these prefixes, by proofs/Reading.antt.
+use Rattle.std.proofs.Common.{ℕ, List, length, sym, arith}
+use lib.Seq.{length-take-le}
+use Rattle.lists.specs.Each.{Byte}
+use Rattle.lists.proofs.Each.{each_of}
+use Rattle.staircase.specs.Parameters.{parameters_of}
+use Rattle.staircase.specs.Exactness.{opened_string}
+use Rattle.rows.proofs.Points.{points_are}
+use Rattle.reader.specs.Decoding.{EachSent}
+use Rattle.reader.proofs.CountedScheme.{A, count_high}
+use Rattle.reader.proofs.Reading.{begins}
+use Rattle.reader.proofs.opening.open.Goals as goal
+use Rattle.reader.proofs.opening.open.Goals.{After-opening_weights-weights}
+
+-- what is said of the blocks that were sent, with these weights, holds of the opened ones
+opened : (c : After-opening_weights-weights) (Says : List ℕ → Type 0)
+    → let a = c.args in
+    EachSent a.s a.s.counts.now (length a.parties.now) a.blocks c.opening_weights-weights.result a.prefixes.now Says
+    → Says (opened_string (parameters_of a.s) a.parties.now a.blocks a.prefixes.now)
+opened c Says E =
+    let a = c.args in
+    let C = c.requires.parties.0 in
+    begins a.s a.s.counts.now C.scheme a.parties.now C.count c.requires.parties.1 a.blocks a.prefixes.now c.requires.sizes.prefixes_long
+    (each_of Byte a.prefixes.now 0 (λ i l. (c.type_inv.prefixes i).fits)) _ _
+    (points_are _ _ _ (c.points_of-points.ensures _) (count_high C)) (rw c.from.ensures at c.opening_weights-weights.ensures) Says E
+
+pub slice_bounds-points-end : goal.slice_bounds-points-end
+slice_bounds-points-end c = omega (arith, count_high c.requires.parties.0)
+
+pub slice_bounds-opening_weights-end : goal.slice_bounds-opening_weights-end
+slice_bounds-opening_weights-end c = sym (length-take-le _ c.points_of-points.result (omega (arith, count_high c.requires.parties.0)))
+
+pub bounds-s-0 : goal.bounds-s-0
+bounds-s-0 c = omega (arith, (A c.requires.parties.0).some)
+
+pub returns-then-blocks-s-le-SMALL-clause-opened : goal.returns-then-blocks-s-le-SMALL-clause-opened
+returns-then-blocks-s-le-SMALL-clause-opened c =
+    opened (goal.at.returns-then-blocks-s-le-SMALL-clause-opened c).After-opening_weights-weights _ c.open_into.ensures.opened
+
+pub returns-clause-opened : goal.returns-clause-opened
+returns-clause-opened c = opened (goal.at.returns-clause-opened c).After-opening_weights-weights _ c.open_into-2.ensures.opened
