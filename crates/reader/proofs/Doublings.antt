@@ -1,7 +1,7 @@
 -- The sum of weighted columns by one chain of doublings: one bit of the weights, column by column, and the bits from the highest down.
 -- Assumes nothing.
-use mathlib.Core.Path.{◌≡◌, refl, sym, ap, ◌∙◌}
-use mathlib.Core.List.{List, [], ◌∷◌}
+use mathlib.Core.Path.{◌≡◌, sym, ap, ◌∙◌}
+use mathlib.Core.List.{List, []}
 use Prim.Native.Nat.{ℕ, zero, suc, ◌+◌, ◌*◌, ◌^◌, ◌/◌, ◌%◌, ◌≤◌, ◌<◌}
 use native.Mathlib.Nat.{div-div-eq-div-mul, div-eq_of_lt, div-one, pow-suc, mul-div_cancel, zero-lt-suc}
 use native.Mathlib.Numerals.{add-one}
@@ -62,21 +62,6 @@ module _ (sum columns weights : List ℕ) (bit : ℕ) where
         (λ k h. even (get_or total k 0) (byte_at columns i k) (get_or weights i 0 / bit) not (ap (λ (l : List ℕ). get_or l k 0) e))
 
 -- ---- the bits from the highest down
-
--- those below the highest
-abbrev lower_bits : List ℕ
-lower_bits = 64 ∷ 32 ∷ 16 ∷ 8 ∷ 4 ∷ 2 ∷ 1 ∷ []
-
--- each is twice the next, and 0 follows the last
-pub bit_halves : (i : ℕ) → i < 7 → (0 < get_or lower_bits i 0) × (get_or lower_bits i 0 / 2 ≡ get_or lower_bits (i + 1) 0)
-bit_halves zero h = (omega arith, refl)
-bit_halves (suc zero) h = (omega arith, refl)
-bit_halves (suc (suc zero)) h = (omega arith, refl)
-bit_halves (suc (suc (suc zero))) h = (omega arith, refl)
-bit_halves (suc (suc (suc (suc zero)))) h = (omega arith, refl)
-bit_halves (suc (suc (suc (suc (suc zero))))) h = (omega arith, refl)
-bit_halves (suc (suc (suc (suc (suc (suc zero)))))) h = (omega arith, refl)
-bit_halves (suc (suc (suc (suc (suc (suc (suc i))))))) h = absurd (let no : ⊥ = omega arith in no)
 
 -- the sum of the first n columns, each times what its weight's bits from u on, a power of 2, make as a number of their own
 abbrev upper : List ℕ → List ℕ → ℕ → ℕ → List ℕ

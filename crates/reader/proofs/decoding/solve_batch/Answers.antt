@@ -1,5 +1,5 @@
 use Rattle.std.proofs.Common.{◌≡◌, ◌*◌, ◌+◌, ◌≤◌, ◌<◌, ℕ, List, length, get_or, take, ap, sym, subst, ◌∙◌, arith}
-use native.Mathlib.Nat.{le_of_eq}
+use native.Mathlib.Nat.{le_of_eq, mul-le-mul}
 use lib.Seq.{take_all}
 use Rattle.lists.proofs.Joined.{row_room, place_on}
 use Rattle.gf256.specs.Lanes.{lanes}
@@ -25,6 +25,7 @@ scatter-requires c =
     let a = c.args in
     let near : get_or a.places.now c.loop-e.e 0 < a.m = c.requires.blocks.3 c.loop-e.e c.loop-e.auto.e c.loop-e-test.true in (
       c.requires.blocks.0,
+      omega (arith, mul-le-mul c.requires.blocks.1 c.requires.blocks.2, c.requires.blocks.2),
       λ k h.
           omega (
             arith,
