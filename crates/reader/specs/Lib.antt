@@ -8,3 +8,4 @@ pub mod Agreeing
 pub mod Ending
 pub mod Opening
 pub mod ReconstructPadded
+pub mod Rows

@@ -5,10 +5,13 @@
 ghost use Rattle.std.specs.Prelude.{◌≡◌, ◌+◌, ◌*◌, ◌≤◌, length};
 ghost use Rattle.scheme.specs.Limits.{max_block, max_blocks};
 ghost use Rattle.reader.specs.Decoding as decoding;
-ghost use Rattle.reader.specs.Filling.{FirstColumn, FillsRow, FillsShare};
+ghost use Rattle.reader.specs.Filling.{FirstColumn, FillsShare};
+ghost use Rattle.reader.specs.Rows.{FillsAll};
 
-use crate::decoding::{Sizes, known, load_parties, sizes_of, solve_batch};
+use crate::decoding::{sizes_of, solve_batch};
+use crate::row::Row;
 use columns::FLAT;
+use gf256::lanes::LANES;
 use interpolation::SIDE;
 use scheme::Scheme;
 
@@ -24,33 +27,20 @@ fn in_first_column(chosen: &[u8; SIDE]) -> [[u8; SIDE]; SIDE]
 }
 
 // One row of all blocks, written from place q of the output on.
-fn fill_row(
-    sizes: Sizes,
-    prefixes: &[u8],
-    weights: &[[u8; SIDE]; SIDE],
-    places: &[usize; SIDE],
-    top: usize,
-    q: usize,
-    work: &[u8],
-    out: &mut [u8],
-)
-    requires input { decoding.SizesFit sizes (decoding.read_by sizes prefixes.now) × decoding.RowFits sizes top q places.now }
-    requires room { (q + sizes.blocks ≤ length out.old) × (length out.old ≤ max_block * max_blocks) }
-    ensures { FillsRow sizes top q places.now weights.now (decoding.read_by sizes prefixes.now) work.now sizes.blocks out.old out.new }
+fn fill_row(row: &Row<'_>, weights: &[[u8; SIDE]; SIDE], work: &[u8], out: &mut [u8])
+    requires { (row.now.q + row.now.sizes.blocks ≤ length out.old) × (length out.old ≤ max_block * max_blocks) }
+    ensures { FillsAll row.now weights.now work.now out.old out.new }
 {
-    let d = sizes.d;
-    let m = sizes.block;
-    let blocks = sizes.blocks;
+    let blocks = row.sizes.blocks;
     let mut columns = [0u8; FLAT];
     // One byte a block, where the values stand in for a coefficient of degree 0.
     let first = [0usize; SIDE];
-    let mut t = 0;
-    while t < blocks {
+    for t in (0..blocks).step_by(LANES) {
         let many = columns::batch_of(blocks - t);
-        known(work, places, d, top, t, m, &mut columns);
+        row.known(work, t, &mut columns);
         let mut used = 0;
-        load_parties(sizes, prefixes, q + t, many, &mut used, &mut columns);
-        let at = q + t;
+        row.load_parties(t, many, &mut used, &mut columns);
+        let at = row.q + t;
         let end = at + many;
         solve_batch(
             &columns,
@@ -58,13 +48,12 @@ fn fill_row(
             &first,
             0,
             1,
-            top,
+            row.top,
             0,
             1,
             many,
             &mut out[at..end],
         );
-        t += many;
     }
 }
 
@@ -84,13 +73,18 @@ pub(crate) fn fill_share(
     requires room { length out.old ≡ s.rows * blocks }
     ensures { FillsShare s.entry s.entry.counts.now d blocks chosen.now (decoding.read_from s.entry d blocks skip prefixes.now) work.now out.new }
 {
-    let rows = s.rows;
     let sizes = sizes_of(s, d, skip, blocks);
     let weights = in_first_column(chosen);
-    for j in 0..rows {
+    for j in 0..s.rows {
         let mut places = [0usize; SIDE];
         let top = rows::row_origins(s.block, s.z, s.counts, j, &mut places);
-        let q = j * blocks;
-        fill_row(sizes, prefixes, &weights, &places, top, q, work, out);
+        let row = Row {
+            sizes,
+            prefixes,
+            places: &places,
+            top,
+            q: j * blocks,
+        };
+        fill_row(&row, &weights, work, out);
     }
 }
