@@ -37,8 +37,8 @@ fn lent_count(d: usize, skip: usize) -> usize
 
 // The points of the first d parties without the one at place `skip`.
 fn first_points(parties: &[u8], skip: usize, d: usize) -> [u8; SIDE]
-    requires { (d ≤ side) × (d ≤ length (without skip parties)) }
-    ensures { (p : Parameters) → take d result ≡ map (point p) (take d (without skip parties)) }
+    requires { (d ≤ side) × (d ≤ length (without skip parties.now)) }
+    ensures { (p : Parameters) → take d result ≡ map (point p) (take d (without skip parties.now)) }
 {
     let mut points = [0u8; SIDE];
     for i in 0..d {
