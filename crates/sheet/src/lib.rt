@@ -7,7 +7,7 @@ ghost use Rattle.scheme.specs.Limits.{max_block};
 ghost use Rattle.sheet.specs.Sheet.{count_line, count_lines, scheme_text, sheet_text, max_input};
 ghost use Rattle.sheet.specs.Writing.{Whole, Contains, Adds};
 
-use scheme::{SchemeAnswer, limits};
+use scheme::Parameters;
 
 mod writer;
 
@@ -22,19 +22,14 @@ pub fn sheet(input: &[u8]) -> Text
     ensures { Whole result (sheet_text input.now) }
 {
     if input.is_empty() {
-        return scheme_text(
-            limits::DEFAULT_N,
-            limits::DEFAULT_R,
-            limits::DEFAULT_Z,
-            &limits::DEFAULT_COUNTS,
-        );
+        return scheme_text(Parameters::default());
     }
-    scheme_text(
-        input[0],
-        byte_or_0(input, 1),
-        byte_or_0(input, 2),
-        counts_of(input),
-    )
+    scheme_text(Parameters {
+        n: input[0],
+        r: byte_or_0(input, 1),
+        z: byte_or_0(input, 2),
+        counts: counts_of(input),
+    })
 }
 
 // The byte at a place of the input, 0 where it has none.
@@ -53,22 +48,23 @@ fn counts_of(input: &[u8]) -> &[u8]
 }
 
 // The text for a scheme.
-fn scheme_text(n: u8, r: u8, z: u8, counts: &[u8]) -> Text
-    ensures { Contains result (scheme_text n r z counts.now) }
+fn scheme_text(given: Parameters) -> Text
+    ensures { Contains result (scheme_text given.entry.n given.entry.r given.entry.z given.entry.counts.now) }
 {
-    let answer = scheme::check(n, r, z, counts);
-    let SchemeAnswer::Accepted(scheme) = answer else {
-        let number = scheme::refusal(answer) as usize;
-        return Text::new().word(b"refused ").number(number).byte(10);
+    let s = match scheme::check(given) {
+        Ok(s) => s,
+        Err(refusal) => {
+            let number = usize::from(refusal.number());
+            return Text::new().word(b"refused ").number(number).byte(10);
+        }
     };
-    let block = scheme.block;
     let first = Text::new()
         .word(b"block ")
-        .number(block)
+        .number(s.block)
         .word(b" rows ")
-        .number(scheme.rows)
+        .number(s.rows)
         .byte(10);
-    with_counts(first, block, z, counts)
+    with_counts(first, s.block, s.z, s.counts)
 }
 
 // A text with one line a count after it, in the list's order.

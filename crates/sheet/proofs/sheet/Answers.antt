@@ -7,7 +7,7 @@ use Rattle.sheet.proofs.sheet.Goals as goal
 
 pub returns-then-is_empty : goal.returns-then-is_empty
 returns-then-is_empty c =
-    rw (sheet_default c.args.input.now (eqb-true _ _ (sym c.is_empty.ensures ∙ c.if-is_empty.true))) (whole c.scheme_text.ensures (scheme_text_short _ _ _ _))
+    rw (sheet_default c.args.input.now (eqb-true _ _ (sym c.is_empty.ensures ∙ c.if-is_empty.true)) _ _ _ _ c.default.ensures) (whole c.scheme_text.ensures (scheme_text_short _ _ _ _))
 
 pub returns : goal.returns
 returns c =
