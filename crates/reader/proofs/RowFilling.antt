@@ -60,11 +60,6 @@ pub filled_none : (x q : ℕ) (row : ℕ → List ℕ) (o : List ℕ) → RowFil
 filled_none x q row o =
     record { long = refl; values = λ t h. absurd (not-suc-le-zero h); before-q = λ i h. refl; after-q = λ i h. refl }
 
--- places `at` to at + many − 1 were lent and came back as y, so the list is as long as before
-pub lent_length : (at many : ℕ) (o y : List ℕ) → at + many ≤ length o → length y ≡ many
-    → length (take at o ++ (y ++ drop (at + many - at) (drop at o))) ≡ length o
-lent_length at many o y room long = rw add-sub_cancel_left (mid_length at many o y room long)
-
 -- what was lent came back with the sums of degree 0: one place a block, from the first on
 pub sums_at : (columns : List ℕ) (table : List (List ℕ)) (first : List ℕ) (top many : ℕ) (y y' : List ℕ) → get_or first 0 0 ≡ 0
     → SolvesBatch columns table first 0 1 top 0 1 many y y' → (k : ℕ) → k < many → get_or y' k 0 ≡ get_or (combined columns table 0 top) k 0

@@ -26,14 +26,9 @@ use Rattle.reader.specs.Decoding.{sent_rows, Counted, PlacesBelow}
 use Rattle.reader.specs.Opening.{HoldsWanted}
 use Rattle.reader.proofs.CountedScheme.{count_in}
 
--- ---- how far a place is from the place where the range starts, onwards and around
+-- ---- how far a place is from the place where the range starts, around the block's end
 
 module _ (m from place : ℕ) (low : from < m) (below : place < m) where
-  pub onwards : from ≤ place → (place + (m - from)) % m ≡ place - from
-  onwards h =
-      let sum : place + (m - from) ≡ place - from + m = omega arith in
-      ap (λ (x : ℕ). x % m) sum ∙ add-mod_right (place - from) m ∙ mod-eq_of_lt (let less : place - from < m = omega arith in less)
-
   pub around : place < from → (place + (m - from)) % m ≡ place + (m - from)
   around h = mod-eq_of_lt (let less : place + (m - from) < m = omega arith in less)
 

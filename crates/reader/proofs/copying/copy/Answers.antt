@@ -1,5 +1,4 @@
-use Rattle.std.proofs.Common.{◌≡◌, ℕ, ◌≤◌, List, length, get_or, take, sym, ap, ◌∙◌, arith}
-use Rattle.lists.proofs.Parts.{take-tabulate}
+use Rattle.std.proofs.Common.{◌≡◌, ℕ, List, length, get_or, sym, ap, ◌∙◌, arith}
 use Rattle.lists.proofs.Table.{tabulate_is}
 use Rattle.gf256.specs.Lanes.{lanes}
 use Rattle.columns.specs.Columns.{flat_column}

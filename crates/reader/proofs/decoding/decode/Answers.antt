@@ -1,10 +1,10 @@
-use Rattle.std.proofs.Common.{◌≡◌, ℕ, ◌+◌, ◌*◌, ◌≤◌, ◌∙◌, arith}
+use Rattle.std.proofs.Common.{◌∙◌, arith}
 use Rattle.lists.proofs.Joined.{row_room}
 use Rattle.order.proofs.ReadingOrder.{code_turn}
 use Rattle.reader.specs.Decoding.{max_usize, sent_rows, read_from}
 use Rattle.reader.proofs.CountedScheme.{prefix_few, sent_few}
 use Rattle.reader.proofs.RowFacts.{row-written, row_told}
-use Rattle.reader.proofs.RowOrder.{counted_none, counted_more, TurnAt, row_at, row_done, found_none}
+use Rattle.reader.proofs.RowOrder.{counted_more, TurnAt, row_at, row_done}
 use Rattle.reader.proofs.decoding.decode.Goals as goal
 
 pub sizes_of-sizes-requires : goal.sizes_of-sizes-requires

@@ -1,4 +1,4 @@
-use Rattle.std.proofs.Common.{◌≡◌, ℕ, ◌+◌, ◌*◌, ◌-◌, ◌≤◌, min, sym, ap, ◌∙◌, arith}
+use Rattle.std.proofs.Common.{◌≡◌, ℕ, ◌+◌, ◌*◌, ◌≤◌, ◌∙◌, arith}
 use native.Mathlib.Nat.{mul-zero, mul-add, mul-le-mul_left}
 use Rattle.gf256.specs.Lanes.{lanes}
 use Rattle.reader.specs.Decoding.{max_usize}

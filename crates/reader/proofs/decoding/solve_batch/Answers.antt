@@ -1,11 +1,11 @@
-use Rattle.std.proofs.Common.{◌≡◌, ◌*◌, ◌+◌, ◌≤◌, ◌<◌, ℕ, List, length, get_or, take, ap, sym, subst, ◌∙◌, arith}
+use Rattle.std.proofs.Common.{◌≡◌, ◌*◌, ◌+◌, ◌<◌, ℕ, List, length, get_or, take, ap, sym, subst, ◌∙◌, arith}
 use native.Mathlib.Nat.{le_of_eq, mul-le-mul}
 use lib.Seq.{take_all}
 use Rattle.lists.proofs.Joined.{row_room, place_on}
 use Rattle.gf256.specs.Lanes.{lanes}
 use Rattle.interpolation.specs.Interpolation.{side}
 use Rattle.reader.specs.Decoding.{combined, Solved}
-use Rattle.reader.proofs.Writes.{solved_none, solved_degree}
+use Rattle.reader.proofs.Writes.{solved_degree}
 use Rattle.reader.proofs.decoding.solve_batch.Goals as goal
 
 -- the columns are all that were lent

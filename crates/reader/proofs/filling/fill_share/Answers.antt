@@ -1,4 +1,4 @@
-use Rattle.std.proofs.Common.{◌≡◌, ℕ, ◌+◌, ◌*◌, ◌≤◌, ◌∙◌, arith}
+use Rattle.std.proofs.Common.{◌≡◌, ◌∙◌, arith}
 use Rattle.lists.proofs.Joined.{row_room}
 use Rattle.reader.specs.Decoding.{read_from}
 use Rattle.reader.proofs.CountedScheme.{prefix_few}

@@ -1,4 +1,4 @@
-use Rattle.std.proofs.Common.{◌≡◌, ◌*◌, ◌+◌, ◌≤◌, ℕ, length, get_or, ap, ◌∙◌, arith, length-take, length-drop}
+use Rattle.std.proofs.Common.{◌*◌, ◌+◌, ◌≤◌, ℕ, length, get_or, ap, ◌∙◌, arith, length-take, length-drop}
 use Rattle.gf256.specs.Lanes.{lanes}
 use Rattle.columns.specs.Columns.{strided_for}
 use Rattle.reader.proofs.Readings.{known_more}

@@ -1,6 +1,6 @@
 -- The party that is next: its bytes lie inside the prefixes, the first bytes of its column inside the buffer, and the count after them is at most that
 -- after all.
-use Rattle.std.proofs.Common.{◌≡◌, ◌*◌, ◌+◌, ◌-◌, ◌≤◌, ◌<◌, ℕ, List, length, take, drop, ap, ◌∙◌, arith}
+use Rattle.std.proofs.Common.{◌≡◌, ◌*◌, ◌+◌, ◌-◌, ◌≤◌, ◌<◌, ℕ, length, take, drop, ap, ◌∙◌, arith}
 use native.Mathlib.Nat.{add-mul}
 use Rattle.lists.proofs.Parts.{part_length}
 use Rattle.lists.proofs.Skipped.{without_room}
