@@ -15,14 +15,14 @@ sizes_of-sizes-requires c = omega (arith, prefix_few c.requires.0)
 pub overflow_mul-row : goal.overflow_mul-row
 overflow_mul-row c =
     let a = c.args in
-    let R : TurnAt a.s a.counts.now a.d a.skip a.blocks (read_from a.s a.d a.blocks a.skip a.prefixes.now) c.loop-turn.turn c.row_in_turn-j.result
+    let R : TurnAt a.s a.s.counts.now a.d a.skip a.blocks (read_from a.s a.d a.blocks a.skip a.prefixes.now) c.loop-turn.turn c.row_in_turn-j.result
     = record { input = c.requires.0; here = omega (arith, c.requires.1); row_is = code_turn _ _ _ _ _ _ _ c.group_number-groups.ensures c.row_in_turn-j.ensures } in
     omega (arith, row_room _ _ a.blocks (row_at R).inside, prefix_few R.input)
 
 pub invariant_of-row : goal.invariant_of-row
 invariant_of-row c =
     let a = c.args in
-    let R : TurnAt a.s a.counts.now a.d a.skip a.blocks (read_from a.s a.d a.blocks a.skip a.prefixes.now) c.loop-turn.turn c.row_in_turn-j.result
+    let R : TurnAt a.s a.s.counts.now a.d a.skip a.blocks (read_from a.s a.d a.blocks a.skip a.prefixes.now) c.loop-turn.turn c.row_in_turn-j.result
     = record { input = c.requires.0; here = omega (arith, c.requires.1); row_is = code_turn _ _ _ _ _ _ _ c.group_number-groups.ensures c.row_in_turn-j.ensures } in
     let fits = row_told a.prefixes.now (row_at R) (row-written (row_at R) c.row_origins-top.new.places c.row_origins-top.ensures.1) c.sizes_of-sizes.ensures c.row_origins-top.ensures.0 in
     record { sizes_fit = fits.0; row_fits = fits.1 }
@@ -40,7 +40,7 @@ pub loop-turn-preserved : goal.loop-turn-preserved
 loop-turn-preserved c =
     let a = c.args in
     let l = c.loop-turn in
-    let R : TurnAt a.s a.counts.now a.d a.skip a.blocks (read_from a.s a.d a.blocks a.skip a.prefixes.now) l.turn c.row_in_turn-j.result
+    let R : TurnAt a.s a.s.counts.now a.d a.skip a.blocks (read_from a.s a.d a.blocks a.skip a.prefixes.now) l.turn c.row_in_turn-j.result
     = record { input = c.requires.0; here = omega (arith, c.requires.1); row_is = code_turn _ _ _ _ _ _ _ c.group_number-groups.ensures c.row_in_turn-j.ensures } in (
       rw c.sizes_of-sizes.ensures at c.decode_row.ensures.counted
           ∙ (counted_more a.d a.blocks l.used l.turn (sent_rows a.s a.d) max_usize R.here l.invariant.0 (omega (arith, sent_few R.input))).0,

@@ -11,7 +11,7 @@ use Rattle.reader.proofs.filling.fill_share.Goals as goal
 pub invariant_of-row : goal.invariant_of-row
 invariant_of-row c =
     let a = c.args in
-    let R : RowAt a.s a.counts.now a.d a.skip a.blocks (read_from a.s a.d a.blocks a.skip a.prefixes.now) c.loop-j.j
+    let R : RowAt a.s a.s.counts.now a.d a.skip a.blocks (read_from a.s a.d a.blocks a.skip a.prefixes.now) c.loop-j.j
     = record { input = c.requires.input.0; inside = omega (arith, c.requires.input.1) } in
     let fits = row_told a.prefixes.now R (row-written R c.row_origins-top.new.places c.row_origins-top.ensures.1) c.sizes_of-sizes.ensures c.row_origins-top.ensures.0 in
     record { sizes_fit = fits.0; row_fits = fits.1 }
@@ -28,7 +28,7 @@ pub loop-j-preserved : goal.loop-j-preserved
 loop-j-preserved c =
     let a = c.args in
     let l = c.loop-j in
-    let R : RowAt a.s a.counts.now a.d a.skip a.blocks (read_from a.s a.d a.blocks a.skip a.prefixes.now) l.j
+    let R : RowAt a.s a.s.counts.now a.d a.skip a.blocks (read_from a.s a.d a.blocks a.skip a.prefixes.now) l.j
     = record { input = c.requires.input.0; inside = omega (arith, c.requires.input.1) } in
     rows_more a.prefixes.now R (row-written R c.row_origins-top.new.places c.row_origins-top.ensures.1) c.sizes_of-sizes.ensures c.row_origins-top.ensures.0
     a.chosen.now c.in_first_column-weights.result a.work.now l.out c.fill_row.new.out c.in_first_column-weights.ensures c.fill_row.ensures l.invariant
@@ -38,5 +38,5 @@ returns c =
     let a = c.args in
     let l = c.loop-j in
     let all : l.j ≡ a.s.rows = omega (arith, l.auto.j-end) in
-    rows_all a.s a.counts.now a.d a.blocks a.chosen.now (read_from a.s a.d a.blocks a.skip a.prefixes.now) a.work.now l.out (l.auto.out ∙ c.requires.room)
+    rows_all a.s a.s.counts.now a.d a.blocks a.chosen.now (read_from a.s a.d a.blocks a.skip a.prefixes.now) a.work.now l.out (l.auto.out ∙ c.requires.room)
     (rw all at l.invariant)
