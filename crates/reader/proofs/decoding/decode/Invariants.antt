@@ -6,4 +6,4 @@ use Rattle.reader.proofs.decoding.decode.Given as goal
 abbrev pub invariant-loop-turn : goal.invariant-loop-turn
 invariant-loop-turn l =
     (l.used ≡ l.d * (l.turn * l.blocks))
-    × EachSent l.s l.s.counts l.d l.blocks l.weights (read_from l.s l.d l.blocks l.skip l.prefixes) (λ B. Found l.s l.counts l.d l.blocks l.turn B l.work)
+    × EachSent l.s l.s.counts.now l.d l.blocks l.weights (read_from l.s l.d l.blocks l.skip l.prefixes) (λ B. Found l.s l.s.counts.now l.d l.blocks l.turn B l.work)
