@@ -5,6 +5,7 @@ pub mod Decoding
 pub mod Filling
 pub mod Rebuild
 pub mod Agreeing
+pub mod Lent
 pub mod Ending
 pub mod Opening
 pub mod ReconstructPadded

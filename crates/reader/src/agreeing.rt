@@ -8,7 +8,7 @@ ghost use Rattle.lists.specs.Without.{without};
 ghost use Rattle.interpolation.specs.Interpolation.{side};
 ghost use Rattle.staircase.specs.Parameters.{Parameters, parameters_of, point};
 ghost use Rattle.agreement.specs.Agreement.{named};
-ghost use Rattle.reader.specs.Agreeing as agreeing;
+ghost use Rattle.reader.specs.Lent.{weights_of, found_by, rebuilt_by, agrees_by, same_by};
 
 use crate::ending::nonzero;
 use crate::lent::Lent;
@@ -51,7 +51,7 @@ fn first_points(parties: &[u8], skip: usize, d: usize) -> [u8; SIDE]
 impl Lent<'_> {
     // The weights of an opening by the first n - r of the parties that are left.
     pub(crate) fn weights(&self) -> [[u8; SIDE]; SIDE]
-        ensures { result ≡ agreeing.weights_in self.now.scheme self.now.scheme.counts.now self.now.parties.now self.now.skip }
+        ensures { result ≡ weights_of self.now }
     {
         let d = self.scheme.fewest_readers();
         let points = first_points(self.parties, self.skip, d);
@@ -60,9 +60,9 @@ impl Lent<'_> {
 
     // Decodes the blocks from the first n - r shares that are left.
     fn open(&self, weights: [[u8; SIDE]; SIDE], work: &mut [u8])
-        requires weights { weights ≡ agreeing.weights_in self.now.scheme self.now.scheme.counts.now self.now.parties.now self.now.skip }
+        requires weights { weights ≡ weights_of self.now }
         requires room { length work.old ≡ self.now.blocks * self.now.scheme.block }
-        ensures { work.new ≡ agreeing.found_in self.now.scheme self.now.scheme.counts.now self.now.parties.now self.now.blocks self.now.skip self.now.shares.now }
+        ensures { work.new ≡ found_by self.now }
     {
         let s = self.scheme;
         let d = s.fewest_readers();
@@ -87,10 +87,10 @@ impl Lent<'_> {
         party: u8,
         out: &mut [u8],
     )
-        requires weights { weights.now ≡ agreeing.weights_in self.now.scheme self.now.scheme.counts.now self.now.parties.now self.now.skip }
-        requires found { work.now ≡ agreeing.found_in self.now.scheme self.now.scheme.counts.now self.now.parties.now self.now.blocks self.now.skip self.now.shares.now }
+        requires weights { weights.now ≡ weights_of self.now }
+        requires found { work.now ≡ found_by self.now }
         requires room { length out.old ≡ self.now.scheme.rows * self.now.blocks }
-        ensures { out.new ≡ agreeing.rebuilt_in self.now.scheme self.now.scheme.counts.now self.now.parties.now self.now.blocks self.now.skip self.now.shares.now party }
+        ensures { out.new ≡ rebuilt_by self.now party }
     {
         let s = self.scheme;
         let d = s.fewest_readers();
@@ -116,10 +116,10 @@ impl Lent<'_> {
         a: usize,
         share: &mut [u8],
     ) -> bool
-        requires weights { weights.now ≡ agreeing.weights_in self.now.scheme self.now.scheme.counts.now self.now.parties.now self.now.skip }
-        requires found { work.now ≡ agreeing.found_in self.now.scheme self.now.scheme.counts.now self.now.parties.now self.now.blocks self.now.skip self.now.shares.now }
+        requires weights { weights.now ≡ weights_of self.now }
+        requires found { work.now ≡ found_by self.now }
         requires room { (length share.old ≡ self.now.scheme.rows * self.now.blocks) × (a < length self.now.parties.now) }
-        ensures { result ≡ agreeing.same_at self.now.scheme self.now.scheme.counts.now self.now.parties.now self.now.blocks self.now.skip self.now.shares.now a }
+        ensures { result ≡ same_by self.now a }
     {
         if a == self.skip {
             return true;
@@ -138,10 +138,10 @@ impl Lent<'_> {
         work: &mut [u8],
         share: &mut [u8],
     ) -> bool
-        requires weights { weights.now ≡ agreeing.weights_in self.now.scheme self.now.scheme.counts.now self.now.parties.now self.now.skip }
+        requires weights { weights.now ≡ weights_of self.now }
         requires room { (length work.old ≡ self.now.blocks * self.now.scheme.block) × (length share.old ≡ self.now.scheme.rows * self.now.blocks) }
-        ensures tested { result ≡ agreeing.agrees_in self.now.scheme self.now.scheme.counts.now self.now.parties.now self.now.blocks self.now.skip self.now.shares.now }
-        ensures found { work.new ≡ agreeing.found_in self.now.scheme self.now.scheme.counts.now self.now.parties.now self.now.blocks self.now.skip self.now.shares.now }
+        ensures tested { result ≡ agrees_by self.now }
+        ensures found { work.new ≡ found_by self.now }
     {
         self.open(*weights, work);
         let first = lent_count(self.scheme.fewest_readers(), self.skip);

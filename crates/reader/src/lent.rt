@@ -11,5 +11,5 @@ pub(crate) struct Lent<'a> {
     pub(crate) parties: &'a [u8],
     pub(crate) shares: &'a [u8],
     pub(crate) skip: usize,
-    ghost lending: { Lending scheme scheme.counts.now parties.now blocks skip shares.now },
+    ghost lending: { Lending scheme parties.now blocks skip shares.now },
 }

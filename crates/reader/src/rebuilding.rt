@@ -2,7 +2,8 @@
 // is lent ever receives the message: the blocks stand in the call's own memory, as in an opening.
 ghost use Rattle.std.specs.Prelude.{◌≡◌, ◌*◌, ◌≤◌, length};
 ghost use Rattle.staircase.specs.Parameters.{given_parameters};
-ghost use Rattle.reader.specs.Agreeing as agreeing;
+ghost use Rattle.reader.specs.Agreeing.{RoomFits};
+ghost use Rattle.reader.specs.Lent.{RebuildsLent};
 ghost use Rattle.agreement.specs.Rebuild.{wanted_refused, held_refused};
 ghost use Rattle.reader.specs.Rebuild.{RebuildCall};
 
@@ -21,6 +22,7 @@ pub enum RebuildRefusal {
 
 impl From<Refusal> for RebuildRefusal {
     ghost use Rattle.reader.specs.declared.rebuilding.RebuildRefusal.TheVariants.{Refused};
+
     ghost from_gives = { λ refusal r. r ≡ Refused refusal };
 
     fn from(refusal: Refusal) -> RebuildRefusal {
@@ -104,8 +106,8 @@ fn rebuild_agreeing(
     out: &mut [u8],
 ) -> Result<usize, RebuildRefusal>
     requires whole { lent.now.skip ≡ length lent.now.parties.now }
-    requires room { agreeing.RoomFits lent.now.scheme lent.now.blocks × (length out.old ≡ lent.now.scheme.rows * lent.now.blocks) }
-    ensures { agreeing.RebuildsLent lent.now.scheme lent.now.scheme.counts.now lent.now.parties.now lent.now.blocks lent.now.shares.now party held.now out.old result out.new }
+    requires room { RoomFits lent.now.scheme lent.now.blocks × (length out.old ≡ lent.now.scheme.rows * lent.now.blocks) }
+    ensures { RebuildsLent lent.now party held.now out.old result out.new }
 {
     let size = lent.blocks * lent.scheme.block;
     let part = lent.scheme.rows * lent.blocks;
@@ -144,7 +146,7 @@ fn rebuild_with(
 ) -> Result<usize, RebuildRefusal>
     requires whole { lent.now.skip ≡ length lent.now.parties.now }
     requires room { (length work.old ≡ lent.now.blocks * lent.now.scheme.block) × (length share.old ≡ lent.now.scheme.rows * lent.now.blocks) × (length out.old ≡ lent.now.scheme.rows * lent.now.blocks) }
-    ensures { agreeing.RebuildsLent lent.now.scheme lent.now.scheme.counts.now lent.now.parties.now lent.now.blocks lent.now.shares.now party held.now out.old result out.new }
+    ensures { RebuildsLent lent.now party held.now out.old result out.new }
 {
     let weights = lent.weights();
     if !lent.agree(&weights, work, share) {
