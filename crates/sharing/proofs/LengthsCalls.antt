@@ -27,7 +27,7 @@ use Rattle.staircase.specs.Exactness.{prefix_bytes, opened_string}
 use Rattle.staircase.proofs.Sizes.{block_some, sent_some}
 use Rattle.family.proofs.Padding.{no_end_lem}
 use Rattle.lengths.specs.declared.MessageLengths.{MessageLengths}
-use Rattle.lengths.specs.Lengths.{lengths_values, lengths_outcome, lengths_refusal, lengths_for}
+use Rattle.lengths.specs.Lengths.{lengths_values, lengths_outcome, lengths_refusal, lengths_for, lengths_in}
 use Rattle.lengths.proofs.Laws.{none_refused}
 use Rattle.dealer.specs.Split.{split_refusal, split_answer}
 use Rattle.dealer.specs.SplitPadded.{split_padded_refusal, split_padded_answer}
@@ -38,7 +38,7 @@ use Rattle.reader.specs.Reconstruct.{reconstruct_refusal, reconstruct_answer}
 use Rattle.reader.specs.ReconstructPadded.{blocks_sent, opened_padded, reconstruct_padded_refusal, reconstruct_padded_answer}
 use Rattle.sharing.specs.Calls.{split_lines}
 use Rattle.sharing.specs.PaddedCalls.{split_padded_lines}
-use Rattle.sharing.specs.Lengths.{lengths_in, opened_in, lengths_lines, LengthsAre, EveryLengths, LengthsWordsSettle, SplitsWith, OpensWith, Serves, LengthsServe}
+use Rattle.sharing.specs.Lengths.{opened_in, lengths_lines, LengthsAre, EveryLengths, LengthsWordsSettle, SplitsWith, OpensWith, Serves, LengthsServe}
 use Rattle.sharing.proofs.Calls.{split_in_words}
 use Rattle.sharing.proofs.PaddedCalls.{split_padded_in_words, padded_answered_by}
 

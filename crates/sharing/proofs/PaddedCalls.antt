@@ -32,10 +32,10 @@ use Rattle.reader.specs.declared.padded.PaddedOpening.{PaddedOpening}
 use Rattle.reader.specs.ReconstructPadded.{padded_outcome, blocks_sent, opened_padded, reconstruct_padded_refusal, reconstruct_padded_answer}
 use Rattle.sharing.specs.Calls.{HandsBack}
 use Rattle.sharing.specs.PaddedSecrecy.{PaddedWrote}
-use Rattle.sharing.specs.PaddedOpening.{OpenedPaddedExactly}
+use Rattle.sharing.specs.OpeningPadded.{OpenedPaddedExactly}
 use Rattle.sharing.specs.PaddedCalls.{EverySplitPadded, prefix_padded_lines, EveryPrefixPadded, prefix_blocks, no_end, reconstruct_padded_lines, PaddedAnsweredBy, ReconstructPaddedInWords, EveryReconstructPadded, PaddedWordsSettle}
 use Rattle.sharing.proofs.PaddedSecrecy.{padded_call_wrote}
-use Rattle.sharing.proofs.PaddedOpening.{padded_exact_calls}
+use Rattle.sharing.proofs.OpeningPadded.{padded_exact_calls}
 use Rattle.sharing.proofs.Calls.{one_answer, one_part}
 
 pub split_padded_in_words : (p : Parameters) → EverySplitPadded p

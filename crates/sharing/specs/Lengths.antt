@@ -5,13 +5,12 @@ use Rattle.std.specs.Prelude.{◌≡◌, true, ◌↔◌, ◌≢◌, List, [], �
 use Rattle.lists.specs.Each.{occurs}
 use Rattle.scheme.specs.Refusals as refusals
 use Rattle.scheme.specs.declared.refusal.Refusal.{Refusal}
-use Rattle.scheme.specs.Outcome.{Outcome}
 use Rattle.scheme.specs.Grounds.{Ground, ground, NoneApplies, FirstApplies, AnsweredBy}
 use Rattle.scheme.specs.Readers.{Rising}
 use Rattle.staircase.specs.Parameters.{Parameters, block, rows, prefix_rows, padded_blocks_of}
 use Rattle.staircase.specs.Exactness.{opened_string}
 use Rattle.lengths.specs.declared.MessageLengths.{MessageLengths}
-use Rattle.lengths.specs.Lengths.{lengths_outcome, lengths_answer, lengths_padded_answer}
+use Rattle.lengths.specs.Lengths.{lengths_outcome, lengths_in}
 use Rattle.scheme.specs.declared.forms.Form.{Form}
 use Rattle.scheme.specs.declared.forms.Form.TheVariants.{Earlier, Padded}
 use Rattle.dealer.specs.Forms.{blocks_in, SplitInCall}
@@ -20,11 +19,6 @@ use Rattle.reader.specs.Reconstruct.{ReconstructCall}
 use Rattle.reader.specs.ReconstructPadded.{ReconstructPaddedCall}
 use Rattle.sharing.specs.Calls.{scheme_lines, too_long}
 use Rattle.sharing.specs.PaddedCalls.{no_end, PaddedAnsweredBy}
-
--- what the call of this form answers
-abbrev pub lengths_in : Form → Parameters → ℕ → Outcome
-lengths_in Earlier p message = lengths_answer p message
-lengths_in Padded p message = lengths_padded_answer p message
 
 -- the bytes that the opener writes: the message, or whole blocks
 abbrev pub opened_in : Form → Parameters → ℕ → ℕ

@@ -19,7 +19,7 @@ use Rattle.reader.specs.declared.padded.PaddedOpening.{PaddedOpening}
 use Rattle.reader.specs.ReconstructPadded.{ReconstructPaddedCall}
 use Rattle.sharing.specs.Calls.{scheme_lines, too_long, no_count, not_rising, HandsBack}
 use Rattle.sharing.specs.PaddedSecrecy.{PaddedWrote}
-use Rattle.sharing.specs.PaddedOpening.{OpensPadded}
+use Rattle.sharing.specs.OpeningPadded.{OpensPadded}
 
 -- ---- split
 

@@ -35,7 +35,7 @@ abbrev pub OpensPadded : Parameters → List ℕ → List ℕ → List ℕ → R
 OpensPadded p parties prefixes before (Ok opening) after = OpenedPaddedExactly p parties prefixes opening.used opening.length after
 OpensPadded p parties prefixes before (Err q) after = after ≡ before
 
--- every call with prefixes that are bytes (`padded_exact_calls` in proofs/PaddedOpening.antt), whatever else it is given
+-- every call with prefixes that are bytes (`padded_exact_calls` in proofs/OpeningPadded.antt), whatever else it is given
 abbrev pub PaddedExactCalls : Parameters → Type 0
 PaddedExactCalls p =
     (parties prefixes before : List ℕ) (a : Result PaddedOpening Refusal) (after : List ℕ) → Each Byte prefixes

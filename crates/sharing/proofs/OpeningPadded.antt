@@ -23,7 +23,7 @@ use Rattle.staircase.specs.Exactness.{prefix_bytes, OpenedBlocks}
 use Rattle.staircase.proofs.Sizes.{block_some}
 use Rattle.staircase.proofs.WholeBlocks.{blocks_exactness}
 use Rattle.reader.specs.ReconstructPadded.{blocks_sent, opened_padded, reconstruct_padded_refusal, reconstruct_padded_answer, reconstruct_padded_output}
-use Rattle.sharing.specs.PaddedOpening.{OpenedPaddedExactly, PaddedExactCalls}
+use Rattle.sharing.specs.OpeningPadded.{OpenedPaddedExactly, PaddedExactCalls}
 use Rattle.sharing.proofs.Opening.{rows_of}
 
 -- what holds where no refusal applies to prefixes and an output of so many bytes
