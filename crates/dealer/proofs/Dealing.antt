@@ -2,7 +2,7 @@
 -- are proved once, over both.
 -- Assumes nothing.
 use mathlib.Core.Path.{◌≡◌, refl, sym, ap, ◌∙◌}
-use mathlib.Core.Bool.{Bool, true, false, cond, not}
+use mathlib.Core.Bool.{cond, not}
 use mathlib.Core.List.{List, [], ◌∷◌, ◌++◌}
 use mathlib.Core.Logic.{⊎_elim}
 use Prim.Native.Nat.{ℕ, ◌+◌, ◌*◌, ◌≤◌, ◌<◌}
@@ -10,16 +10,15 @@ use native.Mathlib.Nat.{div-le_self, mul-le-mul, mul_assoc, mul_comm, eq-zero-or
 use native.Mathlib.Omega.{arith}
 use lib.Dec.{ltb, eqb}
 use lib.ListN.{length}
-use borrow.Author.Tests.{ltb-true, ltb-false, eqb-true, eq-eqb, not-false}
+use borrow.Author.Tests.{ltb-false, eqb-true, eq-eqb, not-false}
 use Rattle.scheme.specs.declared.accepted.Scheme.{Scheme}
 use Rattle.scheme.specs.declared.refusal.Refusal.{Refusal}
 use Rattle.scheme.specs.declared.forms.Form.{Form}
 use Rattle.scheme.specs.declared.forms.Form.TheVariants.{Earlier, Padded}
 use Rattle.scheme.specs.Facts.{SchemeIs}
 use Rattle.scheme.specs.Limits.{max_parties, max_block, max_message, max_blocks}
-use Rattle.scheme.specs.declared.refusal.Refusal.TheVariants.{MessageLength}
 use Rattle.scheme.specs.Refusals.{number}
-use Rattle.scheme.specs.Forms.{blocks_of_length, blocks_answer}
+use Rattle.scheme.specs.Forms.{blocks_of_length}
 use Rattle.scheme.specs.Outcome.{outcome, accepted, refused, number_if, first_of, answer}
 use Rattle.scheme.specs.Check.{refusal}
 use Rattle.scheme.specs.Padding.{padded_count}
@@ -150,29 +149,7 @@ module _ (s : Scheme) (N : ℕ) where
     pub output_whole : s.n * N * s.rows ≤ max_parties * max_blocks * max_block
     output_whole = mul-le-mul output-part b_most
 
--- ---- the blocks of a message, in either form
-
-module _ (form : Form) (m message : ℕ) where
-  -- they are told of one that is not too long
-  pub blocks_told : (N : ℕ) → Ok N ≡ blocks_answer form m message → (N ≡ blocks_of_length form m message) × (message ≤ max_message)
-  unfolding blocks_answer
-  blocks_told N = go (ltb max_message message) refl
-    where
-      go : (t : Bool) → ltb max_message message ≡ t → Ok N ≡ cond t (Err MessageLength) (Ok (blocks_of_length form m message))
-          → (N ≡ blocks_of_length form m message) × (message ≤ max_message)
-      go true f e = absurd (cc e)
-      go false f e = (cc e, ltb-false _ _ f)
-
-  -- and else that is said
-  pub blocks_refused : (q : Refusal) → Err q ≡ blocks_answer form m message → (q ≡ MessageLength) × (max_message < message)
-  unfolding blocks_answer
-  blocks_refused q = go (ltb max_message message) refl
-    where
-      go : (t : Bool) → ltb max_message message ≡ t → Err q ≡ cond t (Err MessageLength) (Ok (blocks_of_length form m message))
-          → (q ≡ MessageLength) × (max_message < message)
-      go true f e = (cc e, ltb-true _ _ f)
-      go false f e = absurd (cc e)
-
+-- the blocks of a message that is not too long are few
 pub blocks-few : (form : Form) (s : Scheme) (message : ℕ) → message ≤ max_message → blocks_of_length form s.block message ≤ max_blocks
 unfolding padded_count
 blocks-few Earlier s message short = blocks_few (parameters_of s) s (scheme_own s) message _ refl short

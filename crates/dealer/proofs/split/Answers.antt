@@ -7,11 +7,11 @@ use Rattle.scheme.specs.declared.refusal.Refusal.TheVariants.{MessageLength, Key
 use Rattle.scheme.specs.Facts.{SchemeIs}
 use Rattle.scheme.specs.Limits.{max_message, max_blocks}
 use Rattle.scheme.specs.Forms.{blocks_of_length}
-use Rattle.scheme.proofs.Laws.{accepted-scheme, scheme_own, pass, pass_within, pass_same, stop_scheme, stop_over, stop_other}
+use Rattle.scheme.proofs.Laws.{accepted-scheme, scheme_own, blocks_told, blocks_refused, pass, pass_within, pass_same, stop_scheme, stop_over, stop_other}
 use Rattle.staircase.specs.Parameters.{given_parameters, parameters_of}
 use Rattle.staircase.proofs.Sizes.{share_small}
 use Rattle.dealer.specs.Forms.{byte_after}
-use Rattle.dealer.proofs.Dealing.{blocks_told, blocks_refused, blocks-few, output_parts, keys-part, keys_whole, output-part, output_whole, keys_are, output_is, stops, writes}
+use Rattle.dealer.proofs.Dealing.{blocks-few, output_parts, keys-part, keys_whole, output-part, output_whole, keys_are, output_is, stops, writes}
 use Rattle.dealer.proofs.split.Goals as goal
 use Rattle.dealer.proofs.split.Goals.{In_ok-scheme, In_ok-blocks, in-Earlier, in-Padded}
 
