@@ -20,8 +20,8 @@ use Rattle.interpolation.proofs.Laws.{value_solved, chosen_party, chosen-known}
 use Rattle.reader.specs.declared.decoding.Sizes.{Sizes}
 use Rattle.reader.specs.Decoding.{combined, SolvesBatch, KnownColumns, SentColumns, SizesFit, RowFits, WeightsOf, RowOf, HasPlaces}
 use Rattle.reader.specs.declared.row.Row.{Row}
-use Rattle.reader.specs.Filling.{ChosenFor, FirstColumn, RowFilled, FillsRow}
-use Rattle.reader.specs.Rows.{read_in}
+use Rattle.reader.specs.Filling.{ChosenFor, FirstColumn, RowFilled}
+use Rattle.reader.specs.Rows.{read_in, FillsBlocks}
 use Rattle.reader.proofs.RowStep.{combined-at, sent-entry, known-entry}
 
 chosen_at : (weights table : List (List ℕ)) (d x : ℕ) (chosen : List ℕ) → ChosenFor weights d x chosen → FirstColumn chosen table → (i : ℕ) → i < side
@@ -94,12 +94,9 @@ filled_more {x} {q} {t} {many} {row} {before} {o} y F inside long is =
       after-q = λ i h. mid_outside (q + t) many o y room 0 i long (inr (omega arith)) ∙ F.after-q i (omega arith);
     })
 
--- ---- a row as the code has it: its values in the first n blocks
+-- ---- a row as the code has it
 
-abbrev pub Filled : Row → List (List ℕ) → List ℕ → ℕ → List ℕ → List ℕ → Type 0
-Filled row table work n before after = FillsRow row.sizes row.top row.q row.places.now table (read_in row) work n before after
-
-pub fills_none : (row : Row) (table : List (List ℕ)) (work o : List ℕ) → Filled row table work 0 o o
+pub fills_none : (row : Row) (table : List (List ℕ)) (work o : List ℕ) → FillsBlocks row table work 0 o o
 fills_none row table work o B points chosen weights x W C T R H = filled_none x row.q R.row o
 
 -- one batch more: the places of its blocks were lent as y, and came back as y'
@@ -108,8 +105,8 @@ module _ (row : Row) (t many : ℕ) (few : many ≤ lanes) (within : t + many �
     (G : SentColumns (read_in row) row.sizes.prefix (row.q + t) many row.sizes.d before columns) where
   pub fills_more : (table : List (List ℕ)) (first : List ℕ) (y y' o o' : List ℕ) → get_or first 0 0 ≡ 0
       → SolvesBatch columns table first 0 1 row.top 0 1 many y y' → length y' ≡ many → row.q + row.sizes.blocks ≤ length o
-      → Filled row table work t o o'
-      → Filled row table work (t + many) o (take (row.q + t) o' ++ (y' ++ drop (row.q + t + many - (row.q + t)) (drop (row.q + t) o')))
+      → FillsBlocks row table work t o o'
+      → FillsBlocks row table work (t + many) o (take (row.q + t) o' ++ (y' ++ drop (row.q + t + many - (row.q + t)) (drop (row.q + t) o')))
   fills_more table first y y' o o' zero S long room F B points chosen weights x W C T R H =
       filled_more y' (F B points chosen weights x W C T R H) (omega arith) long
       (λ i h.

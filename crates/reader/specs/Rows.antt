@@ -13,6 +13,6 @@ read_in row = read_by row.sizes row.prefixes.now
 abbrev pub SolvesRow : Row → List (List ℕ) → ℕ → ℕ → List ℕ → List ℕ → Type 0
 SolvesRow row weights s n w w' = Solves row.sizes row.top row.q row.places.now weights (read_in row) s n w w'
 
--- the row's loop that fills the output
-abbrev pub FillsAll : Row → List (List ℕ) → List ℕ → List ℕ → List ℕ → Type 0
-FillsAll row table work before after = FillsRow row.sizes row.top row.q row.places.now table (read_in row) work row.sizes.blocks before after
+-- the row's loop over the blocks below n that fills the output
+abbrev pub FillsBlocks : Row → List (List ℕ) → List ℕ → ℕ → List ℕ → List ℕ → Type 0
+FillsBlocks row table work n before after = FillsRow row.sizes row.top row.q row.places.now table (read_in row) work n before after

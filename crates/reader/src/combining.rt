@@ -31,6 +31,7 @@ pub(crate) fn combine(
     let mut bit: u8 = 64;
     while 0 < bit {
         let twice = lanes::double_each(sum);
+        // Not laid in `sum` at once: the borrow checker does not cover a call whose result overwrites an array.
         let more = add_marked(twice, columns, &chosen, n, bit);
         sum = more;
         bit = bit / 2;

@@ -7,7 +7,8 @@ ghost use Rattle.reader.specs.Ending.{LastOf, EndOf, CanSeek, EndBy};
 use scheme::limits::MAX_MESSAGE;
 use scheme::padding::END_MARKER;
 
-// How the end is known.
+// How the end is known. A closure that finds it would need more in the contracts that it goes through: that it may be called
+// on the blocks, and what it answers of them.
 #[derive(Clone, Copy)]
 pub(crate) enum Ending {
     Told,

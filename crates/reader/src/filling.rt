@@ -6,7 +6,7 @@ ghost use Rattle.std.specs.Prelude.{◌≡◌, ◌+◌, ◌*◌, ◌≤◌, leng
 ghost use Rattle.scheme.specs.Limits.{max_block, max_blocks};
 ghost use Rattle.reader.specs.Decoding as decoding;
 ghost use Rattle.reader.specs.Filling.{FirstColumn, FillsShare};
-ghost use Rattle.reader.specs.Rows.{FillsAll};
+ghost use Rattle.reader.specs.Rows.{FillsBlocks};
 
 use crate::decoding::{sizes_of, solve_batch};
 use crate::row::Row;
@@ -29,7 +29,7 @@ fn in_first_column(chosen: &[u8; SIDE]) -> [[u8; SIDE]; SIDE]
 // One row of all blocks, written from place q of the output on.
 fn fill_row(row: &Row<'_>, weights: &[[u8; SIDE]; SIDE], work: &[u8], out: &mut [u8])
     requires { (row.now.q + row.now.sizes.blocks ≤ length out.old) × (length out.old ≤ max_block * max_blocks) }
-    ensures { FillsAll row.now weights.now work.now out.old out.new }
+    ensures { FillsBlocks row.now weights.now work.now row.now.sizes.blocks out.old out.new }
 {
     let blocks = row.sizes.blocks;
     let mut columns = [0u8; FLAT];
