@@ -1,6 +1,5 @@
 use Rattle.std.proofs.Common.{◌≡◌, ℕ, ◌+◌, ◌*◌, ◌≤◌, ◌∙◌, arith}
 use native.Mathlib.Nat.{mul-zero, mul-add, mul-le-mul_left}
-use Rattle.gf256.specs.Lanes.{lanes}
 use Rattle.reader.specs.Decoding.{max_usize}
 use Rattle.reader.specs.Rows.{read_in, SolvesRow}
 use Rattle.reader.proofs.Writes.{solved-start}
@@ -32,13 +31,12 @@ loop-t-preserved c =
     let d = row.sizes.d in
     let l = c.loop-t in
     let many : ℕ = c.batch_of-many.result in
-    let full : many ≡ lanes = omega (arith, c.batch_of-many.ensures) in
     let within : l.t + many ≤ row.sizes.blocks = omega (arith, c.batch_of-many.ensures) in
     let used : c.decode_batch.new.used ≡ c.args.used.now + d * (l.t + many)
     = c.decode_batch.ensures.counted ∙ (counted d l.t many row.sizes.blocks c.args.used.now l.used l.invariant.1 within c.requires.counter).0 in
     let solved : SolvesRow row c.args.weights 0 (l.t + many) c.args.work.now c.decode_batch.new.work
     = solves_more row.sizes row.top row.q row.places.now c.args.weights (read_in row) l.t _ _ l.work _ (omega arith) l.invariant.2 c.decode_batch.ensures.solved in
-    (rw full at within, rw full at used, rw full at solved)
+    (within, used, solved)
 
 pub returns-clause-counted : goal.returns-clause-counted
 returns-clause-counted c =
@@ -50,23 +48,5 @@ returns-clause-solved c =
     let all : c.loop-t.t ≡ c.args.row.now.sizes.blocks = omega (arith, c.loop-t.invariant.0) in
     rw all at c.loop-t.invariant.2
 
--- after the last batch
-
-pub returns-2-clause-counted : goal.returns-2-clause-counted
-returns-2-clause-counted c =
-    let row = c.args.row.now in
-    let many : ℕ = c.batch_of-many.result in
-    let all : c.loop-t.t + many ≡ row.sizes.blocks = omega (arith, c.batch_of-many.ensures) in
-    let used : c.decode_batch.new.used ≡ c.args.used.now + row.sizes.d * (c.loop-t.t + many)
-    = c.decode_batch.ensures.counted ∙ (counted row.sizes.d c.loop-t.t many row.sizes.blocks c.args.used.now c.loop-t.used c.loop-t.invariant.1 (omega arith) c.requires.counter).0 in
-    rw all at used
-
-pub returns-2-clause-solved : goal.returns-2-clause-solved
-returns-2-clause-solved c =
-    let row = c.args.row.now in
-    let l = c.loop-t in
-    let many : ℕ = c.batch_of-many.result in
-    let all : l.t + many ≡ row.sizes.blocks = omega (arith, c.batch_of-many.ensures) in
-    let solved : SolvesRow row c.args.weights 0 (l.t + many) c.args.work.now c.decode_batch.new.work
-    = solves_more row.sizes row.top row.q row.places.now c.args.weights (read_in row) l.t _ _ l.work _ (omega arith) l.invariant.2 c.decode_batch.ensures.solved in
-    rw all at solved
+pub loop-t-smaller : goal.loop-t-smaller
+loop-t-smaller c = omega (arith, c.batch_of-many.ensures)

@@ -1,4 +1,4 @@
-use Rattle.std.proofs.Common.{◌≡◌, ◌+◌, ◌*◌, ◌≤◌}
+use Rattle.std.proofs.Common.{◌-◌, ◌≡◌, ◌+◌, ◌*◌, ◌≤◌}
 use Rattle.reader.specs.Rows.{SolvesRow}
 use Rattle.reader.proofs.decoding.decode_row.Given as goal
 
@@ -6,3 +6,6 @@ use Rattle.reader.proofs.decoding.decode_row.Given as goal
 abbrev pub invariant-loop-t : goal.invariant-loop-t
 invariant-loop-t l =
     (l.t ≤ l.row.sizes.blocks) × (l.used ≡ l.initial.used + l.row.sizes.d * l.t) × SolvesRow l.row l.weights 0 l.t l.initial.work l.work
+
+abbrev pub decreases-loop-t : goal.decreases-loop-t
+decreases-loop-t l = l.row.sizes.blocks - l.t
