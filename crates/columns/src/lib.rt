@@ -15,8 +15,9 @@ pub fn gather_into(s: &[u8], at: usize, step: usize, out: &mut [u8])
     ensures { out.new ≡ strided_for (length out.old) s.now at step }
 {
     let inside = count_inside(s.len(), at, step, out.len());
+    // Apart from the others, since the compiler makes better code where it knows that there are 64.
     if inside == LANES && out.len() == LANES {
-        fill_inside(s, at, step, out);
+        strided_into(s, at, step, out);
         return;
     }
     clear(out);
@@ -46,8 +47,9 @@ fn count_inside(size: usize, at: usize, step: usize, most: usize) -> usize
     most.min(last / step + 1)
 }
 
-// The same where all places lie inside: four a turn, and the rest one by one. Not by `chunks_exact_mut`: of what is
-// written through its chunks a proof knows nothing.
+// The same where all places lie inside: four a turn, since the compiler makes better code of the inner loop where it
+// knows its length, and the last three at most. Not by `chunks_exact_mut`: of what is written through its chunks a proof
+// knows nothing.
 fn strided_into(s: &[u8], at: usize, step: usize, out: &mut [u8])
     requires { (k : ℕ) → k < length out.old → at + k * step < length s.now }
     ensures { out.new ≡ strided_for (length out.old) s.now at step }
@@ -55,7 +57,7 @@ fn strided_into(s: &[u8], at: usize, step: usize, out: &mut [u8])
     let turns = out.len() / 4;
     for turn in 0..turns {
         let k = turn * 4;
-        fill_four(s, at + k * step, step, &mut out[k..k + 4]);
+        fill_each(s, at + k * step, step, &mut out[k..k + 4]);
     }
     let done = turns * 4;
     if done < out.len() {
@@ -63,7 +65,7 @@ fn strided_into(s: &[u8], at: usize, step: usize, out: &mut [u8])
     }
 }
 
-// The same one by one, for the last three at most.
+// The same one by one.
 fn fill_each(s: &[u8], at: usize, step: usize, out: &mut [u8])
     requires { (k : ℕ) → k < length out.old → at + k * step < length s.now }
     ensures { out.new ≡ strided_for (length out.old) s.now at step }
@@ -71,28 +73,6 @@ fn fill_each(s: &[u8], at: usize, step: usize, out: &mut [u8])
     for k in 0..out.len() {
         out[k] = s[at + k * step];
     }
-}
-
-// The same for 64 bytes: the compiler makes better code where it knows the number of turns.
-fn fill_inside(s: &[u8], at: usize, step: usize, out: &mut [u8])
-    requires { (length out.old ≡ lanes) × (at + 63 * step < length s.now) }
-    ensures { out.new ≡ strided_for (length out.old) s.now at step }
-{
-    for turn in 0..16 {
-        let k = turn * 4;
-        fill_four(s, at + k * step, step, &mut out[k..k + 4]);
-    }
-}
-
-// Four bytes, written out: the compiler makes slower code of a loop over them.
-fn fill_four(s: &[u8], at: usize, step: usize, out: &mut [u8])
-    requires { (length out.old ≡ 4) × (at + 3 * step < length s.now) }
-    ensures { out.new ≡ strided_for 4 s.now at step }
-{
-    out[0] = s[at];
-    out[1] = s[at + step];
-    out[2] = s[at + 2 * step];
-    out[3] = s[at + 3 * step];
 }
 
 // Makes every byte 0. The loop is faster than `fill`, which writes the last byte by itself: that costs a message of

@@ -8,4 +8,4 @@ pub returns : goal.returns
 returns c =
     let I = c.count_inside-inside.ensures in
     let part : length (take c.count_inside-inside.result c.clear.new.out) ≡ c.count_inside-inside.result = length-take-le _ _ (omega (arith, I.within)) in
-    inside_then_zeros _ _ _ _ _ _ _ I c.clear.ensures (rw part at c.strided_into.ensures)
+    inside_then_zeros _ _ _ _ _ _ _ I c.clear.ensures (rw part at c.strided_into-2.ensures)
