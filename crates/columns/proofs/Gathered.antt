@@ -1,13 +1,12 @@
 -- Bytes that are gathered into a slice: a part at a time, and zeros past the end.
 -- Assumes nothing.
-use mathlib.Core.Path.{◌≡◌, refl, sym, ap, ◌∙◌}
+use mathlib.Core.Path.{◌≡◌, sym, ap, ◌∙◌}
 use mathlib.Core.List.{List, ◌++◌}
 use mathlib.Core.Logic.{inr, ⊎_elim}
 use Prim.Native.Nat.{ℕ, ◌+◌, ◌-◌, ◌*◌, ◌≤◌, ◌<◌}
 use native.Mathlib.Nat.{add-mul, not-suc-le-zero}
 use native.Mathlib.Omega.{arith}
-use lib.ListN.{length, get_or, take, drop, set, replicate, get_or-append, get_or-eq_default, length-replicate, get_or-replicate}
-use Rattle.lists.proofs.Fill.{Fill, fill_none, fill_more}
+use lib.ListN.{length, get_or, take, drop, replicate, get_or-append, get_or-eq_default, length-replicate, get_or-replicate}
 use Rattle.lists.proofs.Parts.{mid_length, mid_before, mid_in, mid_outside}
 use Rattle.lists.proofs.Table.{tabulate_is, length-tabulate, get_or-tabulate}
 use Rattle.lists.proofs.Tests.{lt_or_le}
@@ -20,20 +19,6 @@ strided_for-at n bytes at step k h = get_or-tabulate n _ k 0 h
 pub length-strided : (n : ℕ) (bytes : List ℕ) (at step : ℕ) → length (strided_for n bytes at step) ≡ n
 unfolding strided_for
 length-strided n bytes at step = length-tabulate n _
-
--- four written one after another
-pub four-set : (bytes out : List ℕ) (at step : ℕ) → length out ≡ 4
-    → Fill (λ k. get_or bytes (at + k * step) 0) 4 4
-    (set (set (set (set out 0 (get_or bytes at 0)) 1 (get_or bytes (at + step) 0)) 2 (get_or bytes (at + 2 * step) 0)) 3 (get_or bytes (at + 3 * step) 0))
-four-set bytes out at step long =
-    let none : at ≡ at + 0 * step = omega arith in
-    let one : at + step ≡ at + 1 * step = omega arith in
-    fill_more
-    (fill_more
-    (fill_more (fill_more (fill_none _ 4 out long) (omega arith) (ap (λ (i : ℕ). get_or bytes i 0) none)) (omega arith) (ap (λ (i : ℕ). get_or bytes i 0) one)) (omega arith)
-    refl)
-    (omega arith)
-    refl
 
 -- ---- a part at a time: the first i of the n bytes are there
 
