@@ -22,11 +22,7 @@ pub(crate) fn of_two(rt: &impl Print) -> io::Result<()> {
 fn send(rt: &impl Print, party: usize, d: usize, share: [u8; 2]) -> io::Result<()> {
     printing::number(rt, "count", d)?;
     printing::number(rt, " party", party)?;
-    printing::bytes(
-        rt,
-        " sends",
-        sharing::prefix(A, 2, d, &share),
-    )?;
+    printing::bytes(rt, " sends", sharing::prefix(A, 2, d, &share))?;
     printing::end_line(rt)
 }
 

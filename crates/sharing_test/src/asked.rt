@@ -33,11 +33,7 @@ fn with_scheme(rt: &impl Print, given: Parameters, length: usize) -> io::Result<
     show(rt, length, sharing::lengths(Form::Padded, given, length))
 }
 
-fn show(
-    rt: &impl Print,
-    length: usize,
-    answer: Result<MessageLengths, Refusal>,
-) -> io::Result<()> {
+fn show(rt: &impl Print, length: usize, answer: Result<MessageLengths, Refusal>) -> io::Result<()> {
     printing::number(rt, "length ", length)?;
     match answer {
         Ok(l) => {

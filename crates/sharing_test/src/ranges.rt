@@ -17,7 +17,14 @@ pub(crate) fn of_groups(rt: &impl Print) -> io::Result<()> {
 pub(crate) fn refused(rt: &impl Print) -> io::Result<()> {
     show(rt, Parameters::default(), 12, 2, &[1, 3, 5], 54)?;
     show(rt, Parameters::default(), 14, 0, &[1, 3, 5], 54)?;
-    show(rt, Parameters::default(), 18446744073709551615, 2, &[1, 3, 5], 54)?;
+    show(
+        rt,
+        Parameters::default(),
+        18446744073709551615,
+        2,
+        &[1, 3, 5],
+        54,
+    )?;
     show(rt, Parameters::default(), 12, 2, &[3, 1, 5], 54)?;
     show(rt, Parameters::default(), 12, 2, &[1, 3, 5], 53)?;
     show(rt, Parameters::default(), 0, 5, &[1, 3, 5], 53)?;

@@ -50,12 +50,7 @@ pub(crate) fn refused_twice(rt: &impl Print) -> io::Result<()> {
 }
 
 // Splits zeros, so many of them.
-fn show_refused(
-    rt: &impl Print,
-    given: Parameters,
-    message: usize,
-    keys: usize,
-) -> io::Result<()> {
+fn show_refused(rt: &impl Print, given: Parameters, message: usize, keys: usize) -> io::Result<()> {
     let zeros = [0u8; 16385];
     let mut out = [7u8; 6];
     show(rt, given, cut(&zeros, message), cut(&zeros, keys), &mut out)

@@ -24,7 +24,13 @@ fn open(rt: &impl Print, shares: &[u8]) -> io::Result<()> {
     let used = sharing::reconstruct(FORMER, 5, &[1, 2, 3], shares, &mut message);
     print(rt, used, &message)?;
     let mut other = [0u8; 5];
-    let used_otherwise = sharing::reconstruct(Parameters::default(), 5, &[1, 2, 3], shares, &mut other);
+    let used_otherwise = sharing::reconstruct(
+        Parameters::default(),
+        5,
+        &[1, 2, 3],
+        shares,
+        &mut other,
+    );
     print(rt, used_otherwise, &other)
 }
 
