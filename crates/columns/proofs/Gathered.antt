@@ -4,7 +4,7 @@ use mathlib.Core.Path.{◌≡◌, sym, ap, ◌∙◌}
 use mathlib.Core.List.{List, ◌++◌}
 use mathlib.Core.Logic.{inr, ⊎_elim}
 use Prim.Native.Nat.{ℕ, ◌+◌, ◌-◌, ◌*◌, ◌≤◌, ◌<◌}
-use native.Mathlib.Nat.{add-mul, not-suc-le-zero}
+use native.Mathlib.Nat.{add-mul}
 use native.Mathlib.Omega.{arith}
 use lib.ListN.{length, get_or, take, drop, replicate, get_or-append, get_or-eq_default, length-replicate, get_or-replicate}
 use Rattle.lists.proofs.Parts.{mid_length, mid_before, mid_in, mid_outside}
@@ -25,9 +25,6 @@ length-strided n bytes at step = length-tabulate n _
 pub record Taken (bytes : List ℕ) (at step n i : ℕ) (out : List ℕ) : Type 0 where
   pub long : length out ≡ n
   pub first : (k : ℕ) → k < i → get_or out k 0 ≡ get_or bytes (at + k * step) 0
-
-pub taken_none : (bytes : List ℕ) (at step n : ℕ) (out : List ℕ) → length out ≡ n → Taken bytes at step n 0 out
-taken_none bytes at step n out e = record { long = e; first = λ k h. absurd (not-suc-le-zero h) }
 
 module _ {bytes : List ℕ} {at step n i : ℕ} {out : List ℕ} (T : Taken bytes at step n i out) where
   -- entry k of the next ones
