@@ -1,13 +1,13 @@
 -- The search for the rows taken, in the code's numbers: from the last turn down to one in which a wanted byte stands below degree d.
 -- Assumes nothing.
-use mathlib.Core.Path.{◌≡◌, ap, ◌∙◌}
+use mathlib.Core.Path.{◌≡◌, ◌∙◌}
 use mathlib.Core.Bool.{Bool, true, false}
 use mathlib.Core.List.{List}
 use Rattle.std.proofs.Common.{MatchBool}
 use Rattle.std.specs.List.{HoldsAt, AllWithin, range_with_len}
 use Rattle.std.proofs.lemmas.List.FromFn.{length-range_with_len, get_or-range_with_len}
 use Prim.Native.Nat.{ℕ, suc, ◌+◌, ◌-◌, ◌%◌, ◌≤◌, ◌<◌}
-use native.Mathlib.Nat.{add-mod_right, mod-eq_of_lt}
+use native.Mathlib.Nat.{mod-eq_of_lt}
 use native.Mathlib.Numerals.{add-one}
 use native.Mathlib.Omega.{arith}
 use lib.ListN.{length, get_or}
@@ -62,9 +62,6 @@ module _ {s : Scheme} {ds : List ℕ} {d : ℕ} (C : Counted s ds d) (start long
   -- nothing wanted stands below degree d in the turns from t on
   abbrev pub None : ℕ → Type 0
   None t = NoneLater s.block s.z ds d start long t
-
-  pub none_left : (t : ℕ) → t ≡ sent_rows s d → None t
-  none_left t e = rw e (taken.none_left (count_in C) start long)
 
   -- the row j of the turn before t, and the places of its coefficients
   module _ (t j : ℕ) (pos : 0 < t) (most : t ≤ sent_rows s d) (j-is : j ≡ row_in_turn s.block s.z ds d (t - 1)) (places before : List ℕ)

@@ -69,7 +69,8 @@ pub(crate) fn open_range(
     if past {
         return Err(Refusal::Range);
     }
-    if prefixes.len() != d * s.prefix_rows(d) * blocks {
+    let sent = d * s.prefix_rows(d) * blocks;
+    if prefixes.len() != sent {
         return Err(Refusal::ShareLength);
     }
     if out.len() != range_length {

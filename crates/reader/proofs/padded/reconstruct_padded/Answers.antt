@@ -13,7 +13,7 @@ use Rattle.staircase.proofs.Sizes.{count_most}
 use Rattle.reader.specs.ReconstructPadded.{blocks_sent}
 use Rattle.reader.proofs.CountedScheme.{given_own}
 use Rattle.reader.proofs.OpenerAnswers.{rows_small}
-use Rattle.reader.proofs.PaddedAnswers.{told_blocks_lem, size_small, stops, to_blocks, BlocksTold, sought_fits, counted_told, sought_turns, other_size, ends_nowhere, ends_at}
+use Rattle.reader.proofs.PaddedAnswers.{told_blocks_lem, size_small, stops, to_blocks, BlocksTold, sought_fits, sought_turns, other_size, ends_nowhere, ends_at}
 use Rattle.reader.proofs.padded.reconstruct_padded.Goals as goal
 use Rattle.reader.proofs.padded.reconstruct_padded.Goals.{In_ok-s, Else-unordered, After-blocks_held-blocks, Else-blocks-eq0}
 
@@ -72,19 +72,17 @@ overflow_mul-size c = omega (arith, size_small c.in_ok-s.s _ _ _ (told_is (goal.
 
 pub returns-then-blocks-eq0 : goal.returns-then-blocks-eq0
 returns-then-blocks-eq0 c =
-    let u = (goal.at.returns-then-blocks-eq0 c).Else-unordered in
-    let h = (goal.at.returns-then-blocks-eq0 c).After-blocks_held-blocks in
-    rw (own (goal.at.returns-then-blocks-eq0 c).In_ok-s)
+    let g = goal.at.returns-then-blocks-eq0 c in
+    let u = g.Else-unordered in
+    let h = g.After-blocks_held-blocks in
+    rw (own g.In_ok-s)
     (stops _ _ _ _ ShareLength
     (to_blocks c.in_ok-s.s _ (counted u) (rising u) (stop_true (eq-eqb _ 0 (sym (told_is h) ∙ c.if-blocks-eq0.true)))))
 
 pub returns-then-out-size : goal.returns-then-out-size
 returns-then-out-size c =
-    rw (own (goal.at.returns-then-out-size c).In_ok-s) (other_size (told (goal.at.returns-then-out-size c).Else-blocks-eq0) c.args.out.now c.if-out-size.true)
-
-pub open-found-requires-clause-parties : goal.open-found-requires-clause-parties
-open-found-requires-clause-parties c =
-    (counted_told (told (goal.at.open-found-requires-clause-parties c).Else-blocks-eq0), rising (goal.at.open-found-requires-clause-parties c).Else-unordered)
+    let g = goal.at.returns-then-out-size c in
+    rw (own g.In_ok-s) (other_size (told g.Else-blocks-eq0) c.args.out.now c.if-out-size.true)
 
 pub open-found-requires-clause-sizes : goal.open-found-requires-clause-sizes
 open-found-requires-clause-sizes c = sought_fits (told (goal.at.open-found-requires-clause-sizes c).Else-blocks-eq0) c.args.out.now c.if-out-size.false
@@ -95,15 +93,17 @@ open-found-requires-clause-rows c =
 
 pub returns-in_err-length : goal.returns-in_err-length
 returns-in_err-length c =
+    let g = goal.at.returns-in_err-length c in
     let p = err_from_is_err_and c.from_residual-in_err-length.result c.from_residual-in_err-length.ensures.1 in
     let none = c.in_err-length.ensures.ok_part in
     let value = rw none at c.in_err-length.ensures.value in
     let padding : p.0 ≡ Padding = p.2 ∙ cc value in
-    rw (p.1, padding, own (goal.at.returns-in_err-length c).In_ok-s)
-    (ends_nowhere (told (goal.at.returns-in_err-length c).Else-blocks-eq0) c.args.out.now _ _ c.if-out-size.false c.open-found.ensures.opened none)
+    rw (p.1, padding, own g.In_ok-s)
+    (ends_nowhere (told g.Else-blocks-eq0) c.args.out.now _ _ c.if-out-size.false c.open-found.ensures.opened none)
 
 pub returns : goal.returns
 returns c =
-    rw (own (goal.at.returns c).In_ok-s)
-    (ends_at (told (goal.at.returns c).Else-blocks-eq0) c.args.out.now _ _ c.if-out-size.false c.open-found.ensures.opened _ _ _ c.prefix_rows-rows.ensures
+    let g = goal.at.returns c in
+    rw (own g.In_ok-s)
+    (ends_at (told g.Else-blocks-eq0) c.args.out.now _ _ c.if-out-size.false c.open-found.ensures.opened _ _ _ c.prefix_rows-rows.ensures
     c.open-found.ensures.counted c.in_ok-length.ensures.ok_part)

@@ -4,6 +4,7 @@ use Rattle.std.proofs.Common.{◌≡◌, ℕ, ◌+◌, ◌*◌, ◌≤◌, true,
 use Rattle.std.proofs.lemmas.Result.{err_from_is_err_and}
 use borrow.Author.Tests.{ltb-false}
 use Rattle.lists.specs.Each.{occurs}
+use Rattle.interpolation.specs.Interpolation.{side}
 use Rattle.scheme.specs.declared.accepted.Scheme.{Scheme}
 use Rattle.scheme.specs.declared.forms.Form.TheVariants.{Earlier}
 use Rattle.scheme.specs.declared.refusal.Refusal.TheVariants.{MessageLength, Readers, PartyNumbers, ShareLength, OutputLength, Range}
@@ -11,22 +12,31 @@ use Rattle.scheme.specs.Limits.{max_message}
 use Rattle.scheme.specs.Check.{block_count}
 use Rattle.scheme.specs.Readers.{readers_refused}
 use Rattle.scheme.proofs.Laws.{scheme_own, blocks_told, blocks_refused, done, pass, stop_scheme, stop_over, pass_within, stop_true, pass_false, stop_other, pass_same}
-use Rattle.interpolation.specs.Interpolation.{side}
 use Rattle.staircase.specs.Parameters.{given_parameters, parameters_of, blocks_of}
 use Rattle.staircase.specs.Exactness.{prefix_bytes}
-use Rattle.staircase.proofs.Sizes.{count_most, blocks_are}
+use Rattle.staircase.proofs.Sizes.{blocks_are}
 use Rattle.reader.specs.Decoding.{Counted}
-use Rattle.reader.proofs.CountedScheme.{given_own, counted_own}
+use Rattle.reader.proofs.CountedScheme.{given_own, counted_own, count_high}
 use Rattle.reader.proofs.OpenerAnswers.{bytes_are, bytes_parts, rows_small, bytes_small, told_few, told_fits}
 use Rattle.reader.proofs.RangeAnswers.{turns_reach, stops, to_sizes, opens}
 use Rattle.reader.proofs.range.open_range.Goals as goal
-use Rattle.reader.proofs.range.open_range.Goals.{In_ok-s, Else-past, After-prefix_rows}
+use Rattle.reader.proofs.range.open_range.Goals.{In_ok-s, In_ok-blocks, Else-not-counted, Else-past, After-prefix_rows}
 
 own : (c : In_ok-s) → given_parameters c.args.given ≡ parameters_of c.in_ok-s.s
 own c = given_own c.args.given c.in_ok-s.s c.in_ok-s.ensures.answer c.in_ok-s.ensures.lent
 
--- past refusal 15
-module _ (c : Else-past) where
+-- the tests that do not apply
+not_long : (c : In_ok-blocks) → c.args.message_length ≤ max_message
+not_long c = (blocks_told Earlier _ _ _ c.in_ok-blocks.ensures).1
+
+is_count : (c : Else-not-counted) → occurs (length c.args.parties.now) c.in_ok-s.s.counts.now ≡ true
+is_count c = sym c.is_count-counted.ensures ∙ c.if-not-counted.false
+
+within : (c : Else-past) → ltb c.args.message_length (c.args.start + c.args.range_length) ≡ false
+within c = sym c.ends_past-past.ensures ∙ c.if-past.false
+
+-- past refusal 7
+module _ (c : After-prefix_rows) where
   abbrev s : Scheme
   s = c.in_ok-s.s
 
@@ -36,123 +46,102 @@ module _ (c : Else-past) where
   told : (c.in_ok-blocks.blocks ≡ block_count s.block c.args.message_length) × (c.args.message_length ≤ max_message)
   told = blocks_told Earlier _ _ _ c.in_ok-blocks.ensures
 
-  counted : occurs d s.counts.now ≡ true
-  counted = sym c.is_count-counted.ensures ∙ c.if-not-counted.false
+  counted : Counted s s.counts.now d
+  counted = counted_own s d (sym c.is_count-counted.ensures ∙ c.if-not-counted.false)
 
   rising : readers_refused s.n c.args.parties.now ≡ false
   rising = sym c.readers_refused-unordered.ensures ∙ c.if-unordered.false
 
-  within : ltb c.args.message_length (c.args.start + c.args.range_length) ≡ false
-  within = sym c.ends_past-past.ensures ∙ c.if-past.false
-
   few : d ≤ side
-  few = count_most (parameters_of s) s.accepted.passed d counted
+  few = count_high counted
 
-  scheme : Counted s s.counts.now d
-  scheme = counted_own s d counted
-
--- what is tested for refusal 9
-sent_are : (c : After-prefix_rows)
-    → let s = c.in_ok-s.s in
-    let d = length c.args.parties.now in
-    d * c.prefix_rows.result * c.in_ok-blocks.blocks ≡ prefix_bytes (parameters_of s) d (blocks_of (parameters_of s) c.args.message_length)
-sent_are c =
-    let s = c.in_ok-s.s in
-    bytes_are s _ _ c.prefix_rows.ensures _
-    ∙ ap (prefix_bytes (parameters_of s) _) (blocks_are (parameters_of s) s (scheme_own s) _ _ (blocks_told Earlier _ _ _ c.in_ok-blocks.ensures).0)
+  -- what is tested for refusal 9
+  sent_are : d * c.prefix_rows.result * c.in_ok-blocks.blocks ≡ prefix_bytes (parameters_of s) d (blocks_of (parameters_of s) c.args.message_length)
+  sent_are =
+      bytes_are s _ _ c.prefix_rows.ensures _ ∙ ap (prefix_bytes (parameters_of s) _) (blocks_are (parameters_of s) s (scheme_own s) _ _ told.0)
 
 pub returns-in_err-s : goal.returns-in_err-s
 returns-in_err-s c =
     let p = err_from_is_err_and c.from_residual.result c.from_residual.ensures.1 in
-    rw (p.1, p.2)
-    (stops _ _ _ _ _ _ _ _ _
-    (stop_scheme _ _ _ _ _ c.in_err-s.ensures.answer))
+    rw (p.1, p.2) (stops _ _ _ _ _ _ _ _ _ (stop_scheme _ _ _ _ _ c.in_err-s.ensures.answer))
 
 pub returns-in_err-blocks : goal.returns-in_err-blocks
 returns-in_err-blocks c =
-    let s = c.in_ok-s.s in
     let p = err_from_is_err_and c.from_residual-in_err-blocks.result c.from_residual-in_err-blocks.ensures.1 in
     let over = blocks_refused Earlier _ _ _ c.in_err-blocks.ensures in
     rw (p.1, p.2, over.0, own (goal.at.returns-in_err-blocks c).In_ok-s)
-    (stops _ _ _ _ _ _ _ _ MessageLength
-    (pass s.accepted.passed (stop_over over.1)))
+    (stops _ _ _ _ _ _ _ _ MessageLength (pass c.in_ok-s.s.accepted.passed (stop_over over.1)))
 
 pub returns-then-not-counted : goal.returns-then-not-counted
 returns-then-not-counted c =
-    let s = c.in_ok-s.s in
-    rw (own (goal.at.returns-then-not-counted c).In_ok-s)
+    let g = goal.at.returns-then-not-counted c in
+    rw (own g.In_ok-s)
     (stops _ _ _ _ _ _ _ _ Readers
-    (pass s.accepted.passed (pass_within 5 (blocks_told Earlier _ _ _ c.in_ok-blocks.ensures).1 (stop_true (ap not (sym c.is_count-counted.ensures ∙ c.if-not-counted.true))))))
+    (pass c.in_ok-s.s.accepted.passed (pass_within 5 (not_long g.In_ok-blocks)
+    (stop_true (ap not (sym c.is_count-counted.ensures ∙ c.if-not-counted.true))))))
 
 pub returns-then-unordered : goal.returns-then-unordered
 returns-then-unordered c =
-    let s = c.in_ok-s.s in
-    rw (own (goal.at.returns-then-unordered c).In_ok-s)
+    let g = goal.at.returns-then-unordered c in
+    rw (own g.In_ok-s)
     (stops _ _ _ _ _ _ _ _ PartyNumbers
-    (pass s.accepted.passed (pass_within 5 (blocks_told Earlier _ _ _ c.in_ok-blocks.ensures).1 (pass_false 6 (ap not (sym c.is_count-counted.ensures ∙ c.if-not-counted.false))
-    (stop_true (sym c.readers_refused-unordered.ensures ∙ c.if-unordered.true))))))
+    (pass c.in_ok-s.s.accepted.passed (pass_within 5 (not_long g.In_ok-blocks)
+    (pass_false 6 (ap not (is_count g.Else-not-counted)) (stop_true (sym c.readers_refused-unordered.ensures ∙ c.if-unordered.true))))))
 
 pub returns-then-past : goal.returns-then-past
 returns-then-past c =
-    let s = c.in_ok-s.s in
-    rw (own (goal.at.returns-then-past c).In_ok-s)
+    let g = goal.at.returns-then-past c in
+    rw (own g.In_ok-s)
     (stops _ _ _ _ _ _ _ _ Range
-    (pass s.accepted.passed (pass_within 5 (blocks_told Earlier _ _ _ c.in_ok-blocks.ensures).1 (pass_false 6 (ap not (sym c.is_count-counted.ensures ∙ c.if-not-counted.false))
+    (pass c.in_ok-s.s.accepted.passed (pass_within 5 (not_long g.In_ok-blocks) (pass_false 6 (ap not (is_count g.Else-not-counted))
     (pass_false 7 (sym c.readers_refused-unordered.ensures ∙ c.if-unordered.false) (stop_true (sym c.ends_past-past.ensures ∙ c.if-past.true)))))))
 
-pub overflow_mul-d : goal.overflow_mul-d
-overflow_mul-d c = omega (arith, rows_small c.in_ok-s.s _ _ c.prefix_rows.ensures (few (goal.at.overflow_mul-d c).Else-past))
+pub overflow_mul-sent : goal.overflow_mul-sent
+overflow_mul-sent c = omega (arith, rows_small c.in_ok-s.s _ _ c.prefix_rows.ensures (few (goal.at.overflow_mul-sent c).After-prefix_rows))
 
-pub overflow_mul-d-2 : goal.overflow_mul-d-2
-overflow_mul-d-2 c =
-    let e = (goal.at.overflow_mul-d-2 c).Else-past in
+pub overflow_mul-sent-2 : goal.overflow_mul-sent-2
+overflow_mul-sent-2 c =
+    let e = (goal.at.overflow_mul-sent-2 c).After-prefix_rows in
     omega (arith, bytes_small c.in_ok-s.s _ _ c.prefix_rows.ensures (few e) _ (told_few c.in_ok-s.s _ _ (told e).0 (told e).1))
 
-pub returns-then-prefixes-d : goal.returns-then-prefixes-d
-returns-then-prefixes-d c =
-    let s = c.in_ok-s.s in
-    let e = (goal.at.returns-then-prefixes-d c).Else-past in
-    rw (own (goal.at.returns-then-prefixes-d c).In_ok-s)
+pub returns-then-prefixes-sent : goal.returns-then-prefixes-sent
+returns-then-prefixes-sent c =
+    let g = goal.at.returns-then-prefixes-sent c in
+    let e = g.After-prefix_rows in
+    rw (own g.In_ok-s)
     (stops _ _ _ _ _ _ _ _ ShareLength
-    (to_sizes s _ _ _ _ (told e).1 (counted e) (rising e) (within e)
-    (stop_other (λ q. c.if-prefixes-d.true (q ∙ sym (sent_are (goal.at.returns-then-prefixes-d c).After-prefix_rows))))))
+    (to_sizes c.in_ok-s.s _ _ _ _ (told e).1 (counted e).count (rising e) (within g.Else-past) (stop_other (λ q. c.if-prefixes-sent.true (q ∙ sym (sent_are e))))))
 
 pub returns-then-out-range_length : goal.returns-then-out-range_length
 returns-then-out-range_length c =
-    let s = c.in_ok-s.s in
-    let e = (goal.at.returns-then-out-range_length c).Else-past in
-    rw (own (goal.at.returns-then-out-range_length c).In_ok-s)
+    let g = goal.at.returns-then-out-range_length c in
+    let e = g.After-prefix_rows in
+    rw (own g.In_ok-s)
     (stops _ _ _ _ _ _ _ _ OutputLength
-    (to_sizes s _ _ _ _ (told e).1 (counted e) (rising e) (within e)
-    (pass_same 9 (c.if-prefixes-d.false ∙ sent_are (goal.at.returns-then-out-range_length c).After-prefix_rows) (stop_other c.if-out-range_length.true))))
-
-pub rows_by-many-requires : goal.rows_by-many-requires
-rows_by-many-requires c = scheme (goal.at.rows_by-many-requires c).Else-past
-
-pub open-found-requires-clause-parties : goal.open-found-requires-clause-parties
-open-found-requires-clause-parties c =
-    let e = (goal.at.open-found-requires-clause-parties c).Else-past in
-    (scheme e, rising e)
+    (to_sizes c.in_ok-s.s _ _ _ _ (told e).1 (counted e).count (rising e) (within g.Else-past)
+    (pass_same 9 (c.if-prefixes-sent.false ∙ sent_are e) (stop_other c.if-out-range_length.true))))
 
 pub open-found-requires-clause-sizes : goal.open-found-requires-clause-sizes
 open-found-requires-clause-sizes c =
     let a = c.args in
-    let e = (goal.at.open-found-requires-clause-sizes c).Else-past in
-    told_fits c.in_ok-s.s a.message_length _ (told e).0 (told e).1 _ a.prefixes.now a.start a.out.now (c.if-prefixes-d.false ∙ bytes_parts c.in_ok-s.s _ _ c.prefix_rows.ensures _)
-    (rw c.if-out-range_length.false (ltb-false _ _ (within e)))
+    let s = c.in_ok-s.s in
+    let g = goal.at.open-found-requires-clause-sizes c in
+    let e = g.After-prefix_rows in
+    told_fits s a.message_length _ (told e).0 (told e).1 _ a.prefixes.now a.start a.out.now
+    (c.if-prefixes-sent.false ∙ bytes_parts s _ _ c.prefix_rows.ensures _) (rw c.if-out-range_length.false (ltb-false _ _ (within g.Else-past)))
 
 pub open-found-requires-clause-rows : goal.open-found-requires-clause-rows
 open-found-requires-clause-rows c =
-    let a = c.args in
-    rw c.if-out-range_length.false (turns_reach (scheme (goal.at.open-found-requires-clause-rows c).Else-past) a.take a.start a.range_length _ c.rows_by-many.ensures)
+    let e = (goal.at.open-found-requires-clause-rows c).After-prefix_rows in
+    rw c.if-out-range_length.false (turns_reach (counted e) c.args.take c.args.start c.args.range_length _ c.rows_by-many.ensures)
 
 pub returns : goal.returns
 returns c =
     let a = c.args in
-    let s = c.in_ok-s.s in
-    let e = (goal.at.returns c).Else-past in
-    rw (own (goal.at.returns c).In_ok-s)
-    (opens s a.take a.message_length a.start a.range_length a.parties.now a.prefixes.now a.out.now _ _ (told e).0 c.rows_by-many.ensures
-    (to_sizes s _ _ _ _ (told e).1 (counted e) (rising e) (within e)
-    (pass_same 9 (c.if-prefixes-d.false ∙ sent_are (goal.at.returns c).After-prefix_rows) (pass_same 10 c.if-out-range_length.false done)))
-    c.if-out-range_length.false (ltb-false _ _ (within e)) _ _ _ c.open-found.ensures.counted c.open-found.ensures.opened)
+    let g = goal.at.returns c in
+    let e = g.After-prefix_rows in
+    rw (own g.In_ok-s)
+    (opens c.in_ok-s.s a.take a.message_length a.start a.range_length a.parties.now a.prefixes.now a.out.now _ _ (told e).0 c.rows_by-many.ensures
+    (to_sizes c.in_ok-s.s _ _ _ _ (told e).1 (counted e).count (rising e) (within g.Else-past)
+    (pass_same 9 (c.if-prefixes-sent.false ∙ sent_are e) (pass_same 10 c.if-out-range_length.false done)))
+    c.if-out-range_length.false (ltb-false _ _ (within g.Else-past)) _ _ _ c.open-found.ensures.counted c.open-found.ensures.opened)
