@@ -242,12 +242,6 @@ pub fn sharing_reconstruct_default(
 ) -> SharingAnswer
     ensures { ReconstructFields default_parameters message_length parties.now prefixes.now out.old result out.new }
 {
-    sharing::reconstruct(
-        Parameters::default(),
-        message_length,
-        parties,
-        prefixes,
-        out,
-    )
-    .into()
+    let default = Parameters::default();
+    sharing::reconstruct(default, message_length, parties, prefixes, out).into()
 }

@@ -31,15 +31,8 @@ pub fn sharing_split_from_pool_default(
 ) -> SharingAnswer
     ensures { PoolSplitFields Earlier default_parameters message.now bytes.now pool.old out.old result out.new pool.new }
 {
-    sharing::split_from_pool(
-        pool,
-        Form::Earlier,
-        Parameters::default(),
-        message,
-        bytes,
-        out,
-    )
-    .into()
+    let default = Parameters::default();
+    sharing::split_from_pool(pool, Form::Earlier, default, message, bytes, out).into()
 }
 
 pub fn sharing_split_padded_from_pool(
@@ -66,13 +59,6 @@ pub fn sharing_split_padded_from_pool_default(
 ) -> SharingAnswer
     ensures { PoolSplitFields Padded default_parameters message.now bytes.now pool.old out.old result out.new pool.new }
 {
-    sharing::split_from_pool(
-        pool,
-        Form::Padded,
-        Parameters::default(),
-        message,
-        bytes,
-        out,
-    )
-    .into()
+    let default = Parameters::default();
+    sharing::split_from_pool(pool, Form::Padded, default, message, bytes, out).into()
 }
