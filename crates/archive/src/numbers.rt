@@ -14,7 +14,7 @@ pub(crate) fn number_at(file: &[u8], at: usize) -> usize
     usize::from(u16::from_le_bytes([file[at], file[at + 1]]))
 }
 
-// Writes a number at a place: what stands before the place is kept.
+// Writes a number at a place: what stands before the place is kept. It fits a u16, into which a usize has no From.
 pub(crate) fn put_number(out: &mut [u8], at: usize, number: usize)
     requires { (at + 2 ≤ length out.old) × (number ≤ max_number) }
     ensures { take (at + 2) out.new ≡ take at out.old ++ two_bytes number }

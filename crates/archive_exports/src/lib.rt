@@ -20,6 +20,7 @@ pub struct ArchiveEntryAnswer {
     pub length: u64,
 }
 
+// A usize has no From into u64: `as` keeps the number.
 impl From<Result<Pair, Refusal>> for ArchiveEntryAnswer {
     ghost from_gives = { λ answer a. entry_fields a ≡ place_fields (entry_outcome answer) };
 

@@ -1,7 +1,10 @@
 // The C boundary, as a library: an answer is a struct whose `refusal` is 0 when the call is accepted. A library exports
 // nothing to C, so `exports_c` has an export for each public function here, of the same name and the same contract. Those on
 // padded messages stand in `padded`, those on a pool of keys in `pool`, the opener for a range in `range`, the rebuilding of
-// a share in `rebuild`, the check with the number tried in `tried`, the lengths of a message in `message_lengths`.
+// a share in `rebuild`, the check with the number tried in `tried`, the lengths of a message in `message_lengths`. That a call
+// has a twin at the default scheme, and one for padded messages, is C's interface: C links each by its name. So are the
+// number that is handed over beside the values and the scheme's four arguments. A usize has no From into the structs' u64:
+// it is handed over by `as`, which keeps the number.
 #![tactic(auto)]
 
 ghost use Rattle.std.specs.Prelude.{◌≡◌, length};

@@ -54,6 +54,7 @@ impl From<Result<usize, RebuildRefusal>> for SharingRebuildAnswer {
                 differing: differing as u64,
                 party: 0,
             },
+            // The number that C knows it by; of the other calls none has it.
             Err(RebuildRefusal::Disagreeing { party }) => SharingRebuildAnswer {
                 refusal: 18,
                 differing: 0,

@@ -1,6 +1,6 @@
 // The order in which a reader takes the rows that are sent (document 02, e): the group of d first, then the group numbered
 // one less, down to the first, and in each group the rows rising. The public functions take any numbers, and have an
-// answer for those that no scheme has too; nobody uses it.
+// answer for those that no scheme has too; nobody uses it. So they are not lent a `Scheme` (see crate `rows`).
 #![tactic(auto)]
 
 ghost use Rattle.std.specs.Prelude.{◌≡◌, get_or};

@@ -1,6 +1,7 @@
 // What the rows of a block are made of: a row's group and the number of its coefficients, where each of
 // them comes from, and the points at which the parties have the rows' values. The public functions take any
-// numbers, and have an answer for those that no scheme has too; nobody uses it.
+// numbers, and have an answer for those that no scheme has too; nobody uses it. So they are not lent a `Scheme`,
+// which only accepted numbers have; a struct of the same three fields beside it would have to be made at each call.
 #![tactic(auto)]
 
 ghost use Rattle.std.specs.Prelude.{◌≡◌, ltb, get_or};
@@ -40,6 +41,7 @@ pub fn party_points(n: usize) -> [u8; SIDE]
     let mut points = [0u8; SIDE];
     let end = n.min(SIDE);
     for i in 0..end {
+        // At most 16. A u8 has no From of a usize.
         points[i] = point_of((i + 1) as u8);
     }
     points

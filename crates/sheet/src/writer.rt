@@ -51,6 +51,7 @@ impl Text {
     pub(crate) fn number(self, x: usize) -> Text
         ensures { Adds self result (decimal x) }
     {
+        // One digit. A u8 has no From of a usize.
         let last = 48 + (x % 10) as u8;
         if x < 10 {
             return self.byte(last);
