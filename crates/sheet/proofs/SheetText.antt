@@ -20,8 +20,7 @@ use Rattle.scheme.specs.BlockLength.{block_length}
 use Rattle.scheme.specs.Check.{parties_refused, thresholds_refused, counts_refused, block_refused, refusal, rows_of_count, rows_of_block, checked}
 use Rattle.sheet.specs.Sheet.{decimal, line, count_line, count_lines, scheme_text, sheet_text, word_block, word_rows, word_refused, max_input}
 use Rattle.sheet.specs.Writing.{max_text}
-use Rattle.scheme.proofs.Laws.{scheme-told}
-use Rattle.scheme.proofs.Laws.{accepted}
+use Rattle.scheme.proofs.Laws.{accepted, scheme_own, scheme-told}
 use Rattle.sheet.proofs.Decimal.{decimal_short}
 
 pub count_lines_more : (m z : ℕ) (ds : List ℕ) (d : ℕ) → count_lines m z (ds ++ (d ∷ [])) ≡ count_lines m z ds ++ count_line m z d
@@ -62,6 +61,12 @@ refusal_most : (n r z : ℕ) (ds : List ℕ) → refusal n r z ds ≤ 4
 unfolding refusal
 refusal_most n r z ds = number_most (parties_refused n) (thresholds_refused n r z) (counts_refused n r ds) (block_refused z ds)
 
+-- a scheme's block length is within its limit
+pub block_most : (s : Scheme) → s.block ≤ max_block
+block_most s =
+    let is = scheme_own s in
+    omega (arith, (accepted s.n s.r s.z s.counts.now is.passed).limit, is.block_is)
+
 -- the two cases of a scheme's text, from what the check answers
 module _ (n r z : ℕ) (ds : List ℕ) where
   text_accepted : refusal n r z ds ≡ 0 → scheme_text n r z ds
@@ -73,13 +78,9 @@ module _ (n r z : ℕ) (ds : List ℕ) where
   unfolding scheme_text
   text_refused e = rw (ne_eqb (refusal n r z ds) 0 e)
 
-  module _ (s : Scheme) (is : SchemeIs s n r z ds) where
-    pub block_most : s.block ≤ max_block
-    block_most = omega (arith, (accepted n r z ds is.passed).limit, is.block_is)
-
-    pub accepted_text : s.counts.now ≡ ds
-        → scheme_text n r z ds ≡ line (word_block ∷ decimal s.block ∷ word_rows ∷ decimal s.rows ∷ []) ++ count_lines s.block s.z s.counts.now
-    accepted_text lent = rw (is.block_is, is.rows_is, is.z_is, lent) (text_accepted is.passed)
+  pub accepted_text : (s : Scheme) → SchemeIs s n r z ds → s.counts.now ≡ ds
+      → scheme_text n r z ds ≡ line (word_block ∷ decimal s.block ∷ word_rows ∷ decimal s.rows ∷ []) ++ count_lines s.block s.z s.counts.now
+  accepted_text s is lent = rw (is.block_is, is.rows_is, is.z_is, lent) (text_accepted is.passed)
 
   pub refused_text : (q : Refusal) → refused (number q) ≡ checked n r z ds → scheme_text n r z ds ≡ line (word_refused ∷ decimal (number q) ∷ [])
   refused_text q e =

@@ -2,12 +2,11 @@
 // reads, as a text of lines.
 #![tactic(auto)]
 
-ghost use Rattle.std.specs.Prelude.{◌≡◌, ◌≤◌, get_or, take, drop};
-ghost use Rattle.scheme.specs.Limits.{max_block};
+ghost use Rattle.std.specs.Prelude.{◌≡◌, get_or, take, drop};
 ghost use Rattle.sheet.specs.Sheet.{count_line, count_lines, scheme_text, sheet_text, max_input};
 ghost use Rattle.sheet.specs.Writing.{Whole, Contains, Adds};
 
-use scheme::Parameters;
+use scheme::{Parameters, Scheme};
 
 mod writer;
 
@@ -64,27 +63,25 @@ fn scheme_text(given: Parameters) -> Text
         .word(b" rows ")
         .number(s.rows)
         .byte(10);
-    with_counts(first, s.block, s.z, s.counts)
+    with_counts(first, s)
 }
 
-// A text with one line a count after it, in the list's order.
-fn with_counts(mut text: Text, block: usize, z: u8, counts: &[u8]) -> Text
-    requires { block ≤ max_block }
-    ensures { Adds text result (count_lines block z counts.now) }
+// A text with one line a count of the scheme after it, in the list's order.
+fn with_counts(mut text: Text, scheme: Scheme) -> Text
+    ensures { Adds text result (count_lines scheme.entry.block scheme.entry.z scheme.entry.counts.now) }
 {
-    for &d in counts {
-        text = with_count(text, block, z, d);
+    for &d in scheme.counts {
+        text = with_count(text, scheme, d);
     }
     text
 }
 
 // A text with a count's line after it: d, its P, and the bytes read for a block, d times P.
-fn with_count(text: Text, block: usize, z: u8, d: u8) -> Text
-    requires { block ≤ max_block }
-    ensures { Adds text result (count_line block z d) }
+fn with_count(text: Text, scheme: Scheme, d: u8) -> Text
+    ensures { Adds text result (count_line scheme.entry.block scheme.entry.z d) }
 {
     let count = usize::from(d);
-    let rows = scheme::rows_of_count(block, z, count);
+    let rows = scheme::rows_of_count(scheme.block, scheme.z, count);
     text.number(count)
         .byte(32)
         .number(rows)

@@ -3,7 +3,7 @@ use Rattle.std.proofs.Common.{ap}
 use Rattle.scheme.proofs.Laws.{accepted-scheme}
 use Rattle.sheet.specs.Sheet.{line}
 use Rattle.sheet.proofs.Written.{adds_then}
-use Rattle.sheet.proofs.SheetText.{block_most, accepted_text, refused_text}
+use Rattle.sheet.proofs.SheetText.{accepted_text, refused_text}
 use mathlib.Core.List.{[]}
 use Rattle.sheet.proofs.scheme_text.Goals as goal
 
@@ -12,9 +12,6 @@ unfolding line
 returns-in-Err c =
     rw (refused_text _ _ _ _ _ c.in-Err.ensures.answer, ← c.number.ensures, ← c.from-number.ensures)
     ((adds_then c.word.ensures (adds_then c.number-in-Err.ensures c.byte.ensures)).holds [] c.new.ensures)
-
-pub with_counts-requires : goal.with_counts-requires
-with_counts-requires c = block_most _ _ _ _ c.in-Ok.s (accepted-scheme c.in-Ok.ensures.answer)
 
 pub returns : goal.returns
 unfolding line

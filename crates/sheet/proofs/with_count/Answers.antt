@@ -4,12 +4,12 @@ use native.Mathlib.Nat.{mul-le-mul}
 use Rattle.scheme.specs.Limits.{max_block}
 use Rattle.sheet.specs.Sheet.{line, count_line}
 use Rattle.sheet.proofs.Written.{adds_then}
-use Rattle.sheet.proofs.SheetText.{rows_most}
+use Rattle.sheet.proofs.SheetText.{block_most, rows_most}
 use Rattle.sheet.proofs.with_count.Goals as goal
 
 pub overflow_mul-count : goal.overflow_mul-count
 overflow_mul-count c =
-    let low : c.rows_of_count-rows.result ≤ max_block = omega (arith, rows_most c.args.block c.args.z c.from-count.result) in
+    let low : c.rows_of_count-rows.result ≤ max_block = omega (arith, rows_most c.args.scheme.block c.args.scheme.z c.from-count.result, block_most c.args.scheme) in
     let small : c.from-count.result ≤ 255 = omega arith in
     omega (arith, mul-le-mul small low)
 
