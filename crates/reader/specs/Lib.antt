@@ -9,4 +9,5 @@ pub mod Lent
 pub mod Ending
 pub mod Opening
 pub mod ReconstructPadded
+pub mod Prefixes
 pub mod Rows

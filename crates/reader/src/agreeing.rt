@@ -12,6 +12,7 @@ ghost use Rattle.reader.specs.Lent.{weights_of, found_by, rebuilt_by, agrees_by,
 
 use crate::ending::nonzero;
 use crate::lent::Lent;
+use crate::prefixes::Prefixes;
 use crate::{decoding, filling};
 use interpolation::SIDE;
 use rows::point_of;
@@ -67,16 +68,14 @@ impl Lent<'_> {
         let s = self.scheme;
         let d = s.fewest_readers();
         let end = lent_count(d, self.skip) * (s.rows * self.blocks);
-        decoding::decode(
-            s,
+        let first = Prefixes {
+            scheme: s,
             d,
-            self.skip,
-            self.blocks,
-            s.rows,
-            weights,
-            &self.shares[..end],
-            work,
-        );
+            skip: self.skip,
+            blocks: self.blocks,
+            bytes: &self.shares[..end],
+        };
+        decoding::decode(first, s.rows, weights, work);
     }
 
     // The share of a party from the same shares and the blocks in the work buffer.
@@ -96,16 +95,14 @@ impl Lent<'_> {
         let d = s.fewest_readers();
         let end = lent_count(d, self.skip) * (s.rows * self.blocks);
         let chosen = interpolation::value_weights(weights, d, point_of(party));
-        filling::fill_share(
-            s,
+        let first = Prefixes {
+            scheme: s,
             d,
-            self.skip,
-            self.blocks,
-            &chosen,
-            &self.shares[..end],
-            work,
-            out,
-        );
+            skip: self.skip,
+            blocks: self.blocks,
+            bytes: &self.shares[..end],
+        };
+        filling::fill_share(first, &chosen, work, out);
     }
 
     // Is the share at place a the one that is left out, or what is rebuilt for its party?

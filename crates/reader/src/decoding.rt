@@ -8,15 +8,16 @@ ghost use Rattle.interpolation.specs.Interpolation.{side};
 ghost use Rattle.reader.specs.Decoding as decoding;
 ghost use Rattle.scheme.specs.Limits.{max_block, max_blocks};
 ghost use Rattle.reader.specs.Decoding.{SolvesBatch};
+ghost use Rattle.reader.specs.Prefixes.{sizes_of, Finds};
 ghost use Rattle.reader.specs.Rows.{read_in, SolvesRow};
 
 use crate::combining::combine;
 use crate::copying::copy;
+use crate::prefixes::Prefixes;
 use crate::row::Row;
 use columns::FLAT;
 use gf256::lanes::LANES;
 use interpolation::SIDE;
-use scheme::Scheme;
 
 // Writes the first bytes of a column, `many` of them, `step` apart from place `at` on.
 fn scatter(column: [u8; LANES], at: usize, step: usize, many: usize, work: &mut [u8])
@@ -43,18 +44,18 @@ pub(crate) struct Sizes {
     pub(crate) skip: usize,
 }
 
-// Those of d prefixes of N blocks.
-pub(crate) fn sizes_of(s: Scheme, d: usize, skip: usize, blocks: usize) -> Sizes
-    requires { decoding.sent_rows s d * blocks ≤ decoding.max_usize }
-    ensures { result ≡ decoding.sizes_of s.entry d skip blocks }
+// Those of the prefixes.
+pub(crate) fn sizes_of(prefixes: Prefixes<'_>) -> Sizes
+    ensures { result ≡ sizes_of prefixes.entry }
 {
+    let s = prefixes.scheme;
     Sizes {
         z: usize::from(s.z),
-        d,
+        d: prefixes.d,
         block: s.block,
-        blocks,
-        prefix: s.prefix_rows(d) * blocks,
-        skip,
+        blocks: prefixes.blocks,
+        prefix: s.prefix_rows(prefixes.d) * prefixes.blocks,
+        skip: prefixes.skip,
     }
 }
 
@@ -187,26 +188,22 @@ fn decode_row(row: &Row<'_>, weights: [[u8; SIDE]; SIDE], used: &mut usize, work
     }
 }
 
-// Decodes the rows of the first turns in the reader's order, `many` of them, from the prefixes of d parties, P × N bytes
-// each and one after another, into the work buffer of N whole blocks. The prefix at place `skip` is passed over: there is
-// one more then, or none is where it is d. A row's origins are found once for all blocks. The answer is the number of the
-// prefixes' bytes that were used.
+// Decodes the rows of the first turns in the reader's order, `many` of them, from the prefixes into the work buffer of N
+// whole blocks. A row's origins are found once for all blocks. The answer is the number of the prefixes' bytes that were
+// used.
 pub(crate) fn decode(
-    s: Scheme,
-    d: usize,
-    skip: usize,
-    blocks: usize,
+    prefixes: Prefixes<'_>,
     many: usize,
     weights: [[u8; SIDE]; SIDE],
-    prefixes: &[u8],
     work: &mut [u8],
 ) -> usize
-    requires { decoding.Input s s.counts.now d blocks (decoding.read_from s d blocks skip prefixes.now) × (many ≤ decoding.sent_rows s d) × (length work.old ≡ blocks * s.block) }
-    ensures counted { result ≡ d * (many * blocks) }
-    ensures found { decoding.EachSent s.entry s.entry.counts.now d blocks weights (decoding.read_from s.entry d blocks skip prefixes.now) (λ B. decoding.Found s.entry s.entry.counts.now d blocks many B work.new) }
+    requires { (many ≤ decoding.sent_rows prefixes.scheme prefixes.d) × (length work.old ≡ prefixes.blocks * prefixes.scheme.block) }
+    ensures counted { result ≡ prefixes.entry.d * (many * prefixes.entry.blocks) }
+    ensures found { Finds prefixes.entry weights many work.new }
 {
-    let sizes = sizes_of(s, d, skip, blocks);
-    let groups = order::group_number(s.counts, d);
+    let s = prefixes.scheme;
+    let sizes = sizes_of(prefixes);
+    let groups = order::group_number(s.counts, prefixes.d);
     let mut used = 0;
     for turn in 0..many {
         let j = order::row_in_turn(s.block, s.z, s.counts, groups, turn);
@@ -214,10 +211,10 @@ pub(crate) fn decode(
         let top = rows::row_origins(s.block, s.z, s.counts, j, &mut places);
         let row = Row {
             sizes,
-            prefixes,
+            prefixes: prefixes.bytes,
             places: &places,
             top,
-            q: j * blocks,
+            q: j * prefixes.blocks,
         };
         decode_row(&row, weights, &mut used, work);
     }

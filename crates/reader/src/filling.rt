@@ -5,14 +5,15 @@
 ghost use Rattle.std.specs.Prelude.{◌≡◌, ◌+◌, ◌*◌, ◌≤◌, length};
 ghost use Rattle.scheme.specs.Limits.{max_block, max_blocks};
 ghost use Rattle.reader.specs.Decoding as decoding;
-ghost use Rattle.reader.specs.Filling.{FirstColumn, FillsShare};
+ghost use Rattle.reader.specs.Filling.{FirstColumn};
+ghost use Rattle.reader.specs.Prefixes.{Fills};
 ghost use Rattle.reader.specs.Rows.{FillsBlocks};
 
 use crate::decoding::{sizes_of, solve_batch};
+use crate::prefixes::Prefixes;
 use crate::row::Row;
 use columns::FLAT;
 use interpolation::SIDE;
-use scheme::Scheme;
 
 // The weights as the first column of a table, as the sums of an opening take them.
 fn in_first_column(chosen: &[u8; SIDE]) -> [[u8; SIDE]; SIDE]
@@ -61,31 +62,23 @@ fn fill_row(row: &Row<'_>, weights: &[[u8; SIDE]; SIDE], work: &[u8], out: &mut 
 
 // Fills the output with the share at a point, by the weights of that point. The work buffer has the blocks that were
 // decoded from the same prefixes, which are whole shares.
-pub(crate) fn fill_share(
-    s: Scheme,
-    d: usize,
-    skip: usize,
-    blocks: usize,
-    chosen: &[u8; SIDE],
-    prefixes: &[u8],
-    work: &[u8],
-    out: &mut [u8],
-)
-    requires input { decoding.Input s s.counts.now d blocks (decoding.read_from s d blocks skip prefixes.now) × (decoding.sent_rows s d ≡ s.rows) }
-    requires room { length out.old ≡ s.rows * blocks }
-    ensures { FillsShare s.entry s.entry.counts.now d blocks chosen.now (decoding.read_from s.entry d blocks skip prefixes.now) work.now out.new }
+pub(crate) fn fill_share(prefixes: Prefixes<'_>, chosen: &[u8; SIDE], work: &[u8], out: &mut [u8])
+    requires whole { decoding.sent_rows prefixes.scheme prefixes.d ≡ prefixes.scheme.rows }
+    requires room { length out.old ≡ prefixes.scheme.rows * prefixes.blocks }
+    ensures { Fills prefixes.entry chosen.now work.now out.new }
 {
-    let sizes = sizes_of(s, d, skip, blocks);
+    let s = prefixes.scheme;
+    let sizes = sizes_of(prefixes);
     let weights = in_first_column(chosen);
     for j in 0..s.rows {
         let mut places = [0usize; SIDE];
         let top = rows::row_origins(s.block, s.z, s.counts, j, &mut places);
         let row = Row {
             sizes,
-            prefixes,
+            prefixes: prefixes.bytes,
             places: &places,
             top,
-            q: j * blocks,
+            q: j * prefixes.blocks,
         };
         fill_row(&row, &weights, work, out);
     }

@@ -6,23 +6,38 @@ use Rattle.lists.proofs.Each.{each_of}
 use Rattle.staircase.specs.Parameters.{parameters_of}
 use Rattle.staircase.specs.Exactness.{opened_string}
 use Rattle.rows.proofs.Points.{points_are}
-use Rattle.reader.specs.Decoding.{EachSent}
+use Rattle.reader.specs.Decoding.{Input, EachSent, read_from}
 use Rattle.reader.proofs.CountedScheme.{A, count_high}
 use Rattle.reader.proofs.Reading.{begins}
+use Rattle.reader.proofs.Skips.{all_read, sent_whole}
 use Rattle.reader.proofs.opening.open.Goals as goal
 use Rattle.reader.proofs.opening.open.Goals.{After-opening_weights-weights}
+
+-- the prefixes are those of the parties, none of them passed over
+input : (c : After-opening_weights-weights)
+    → let a = c.args in
+    Input a.s a.s.counts.now (length a.parties.now) a.blocks a.prefixes.now
+input c = record { counted = c.requires.parties.0; blocks_high = c.requires.sizes.blocks_high; prefixes_long = c.requires.sizes.prefixes_long }
+
+pub invariant_of-sent : goal.invariant_of-sent
+invariant_of-sent c = record { input = all_read (input (goal.at.invariant_of-sent c).After-opening_weights-weights) }
+
+pub invariant_of-sent-2 : goal.invariant_of-sent-2
+invariant_of-sent-2 c = record { input = all_read (input (goal.at.invariant_of-sent-2 c).After-opening_weights-weights) }
 
 -- what is said of the blocks that were sent, with these weights, holds of the opened ones
 opened : (c : After-opening_weights-weights) (Says : List ℕ → Type 0)
     → let a = c.args in
-    EachSent a.s a.s.counts.now (length a.parties.now) a.blocks c.opening_weights-weights.result a.prefixes.now Says
+    let d : ℕ = length a.parties.now in
+    EachSent a.s a.s.counts.now d a.blocks c.opening_weights-weights.result (read_from a.s d a.blocks d a.prefixes.now) Says
     → Says (opened_string (parameters_of a.s) a.parties.now a.blocks a.prefixes.now)
 opened c Says E =
     let a = c.args in
     let C = c.requires.parties.0 in
     begins a.s a.s.counts.now C.scheme a.parties.now C.count c.requires.parties.1 a.blocks a.prefixes.now c.requires.sizes.prefixes_long
     (each_of Byte a.prefixes.now 0 (λ i l. (c.type_inv.prefixes i).fits)) _ _
-    (points_are _ _ _ (c.points_of-points.ensures _) (count_high C)) (rw c.from.ensures at c.opening_weights-weights.ensures) Says E
+    (points_are _ _ _ (c.points_of-points.ensures _) (count_high C)) (rw c.from.ensures at c.opening_weights-weights.ensures) Says
+    (λ B K points W X. E B K points W (sent_whole (input c) X))
 
 pub slice_bounds-points-end : goal.slice_bounds-points-end
 slice_bounds-points-end c = omega (arith, count_high c.requires.parties.0)

@@ -10,7 +10,6 @@ use Rattle.reader.specs.declared.ending.Ending.TheVariants.{Told, Sought}
 use Rattle.reader.specs.Decoding.{Found}
 use Rattle.reader.specs.Ending.{CanSeek, EndBy, OpenedBy, SeeksIn, TurnsReach}
 use Rattle.reader.proofs.CountedScheme.{A}
-use Rattle.reader.proofs.Skips.{all_read, sent_whole}
 use Rattle.reader.proofs.RowOrder.{found_all, found-copied}
 use Rattle.reader.proofs.opening.open_into.Goals as goal
 
@@ -46,26 +45,29 @@ module _ (how : Ending) (s : Scheme) (ds : List ℕ) (d N many start : ℕ) (y r
       }
 
 pub decode-used-requires : goal.decode-used-requires
-decode-used-requires c = (all_read c.requires.sizes.0, c.requires.rows.within, length-take-le _ c.args.work.now c.requires.sizes.1)
+decode-used-requires c = (c.requires.rows.within, length-take-le _ c.args.work.now c.requires.sizes.0)
 
 pub end_by-end-requires : goal.end_by-end-requires
 end_by-end-requires c =
     let a = c.args in
-    let long : length c.decode-used.new.work ≡ a.blocks * a.s.block = c.decode-used.auto.work ∙ length-take-le _ a.work.now c.requires.sizes.1 in
-    can_seek a.how a.s.block a.blocks a.start _ _ (A c.requires.sizes.0.counted).least.positive (ap length (take_at c.decode-used.new.work _ _ long) ∙ long) c.requires.sizes.3
+    let p = a.prefixes in
+    let long : length c.decode-used.new.work ≡ p.blocks * p.scheme.block = c.decode-used.auto.work ∙ length-take-le _ a.work.now c.requires.sizes.0 in
+    can_seek a.how p.scheme.block p.blocks a.start _ _ (A p.input.counted).least.positive (ap length (take_at c.decode-used.new.work _ _ long) ∙ long) c.requires.sizes.2
 
 pub returns-then-is_some-clause-opened : goal.returns-then-is_some-clause-opened
 returns-then-is_some-clause-opened c B K points W X =
     let a = c.args in
-    opened_some a.how a.s a.s.counts.now a.d a.blocks a.many a.start c.decode-used.new.work _ B a.out.now
-    c.requires.rows (c.decode-used.ensures.found B K points W (sent_whole c.requires.sizes.0 X)) c.requires.sizes.2 X.blocks_are.0
-    (c.decode-used.auto.work ∙ length-take-le _ a.work.now c.requires.sizes.1) c.end_by-end.result _ c.requires.sizes.3 c.end_by-end.ensures
+    let p = a.prefixes in
+    opened_some a.how p.scheme p.scheme.counts.now p.d p.blocks a.many a.start c.decode-used.new.work _ B a.out.now
+    c.requires.rows (c.decode-used.ensures.found B K points W X) c.requires.sizes.1 X.blocks_are.0
+    (c.decode-used.auto.work ∙ length-take-le _ a.work.now c.requires.sizes.0) c.end_by-end.result _ c.requires.sizes.2 c.end_by-end.ensures
     (sym c.is_some.ensures ∙ c.if-is_some.true) c.copy_from_slice.ensures.after
 
 pub returns-else-is_some-clause-opened : goal.returns-else-is_some-clause-opened
 returns-else-is_some-clause-opened c B K points W X =
     let a = c.args in
-    opened_none a.how a.s a.s.counts.now a.d a.blocks a.many a.start c.decode-used.new.work _ B a.out.now
-    c.requires.rows (c.decode-used.ensures.found B K points W (sent_whole c.requires.sizes.0 X)) c.requires.sizes.2 X.blocks_are.0
-    (c.decode-used.auto.work ∙ length-take-le _ a.work.now c.requires.sizes.1) c.end_by-end.result c.requires.sizes.3 c.end_by-end.ensures
+    let p = a.prefixes in
+    opened_none a.how p.scheme p.scheme.counts.now p.d p.blocks a.many a.start c.decode-used.new.work _ B a.out.now
+    c.requires.rows (c.decode-used.ensures.found B K points W X) c.requires.sizes.1 X.blocks_are.0
+    (c.decode-used.auto.work ∙ length-take-le _ a.work.now c.requires.sizes.0) c.end_by-end.result c.requires.sizes.2 c.end_by-end.ensures
     (sym c.is_some.ensures ∙ c.if-is_some.false)

@@ -12,15 +12,18 @@ overflow_mul-end c = omega (arith, share_short c.args.self.now.lending)
 pub overflow_mul-end-2 : goal.overflow_mul-end-2
 overflow_mul-end-2 c = omega (arith, bytes_few c.args.self.now.lending c.lent_count.result (rw c.fewest_readers-d.ensures at c.lent_count.ensures))
 
-pub slice_bounds-fill_share-end : goal.slice_bounds-fill_share-end
-slice_bounds-fill_share-end c =
+pub slice_bounds-first-end : goal.slice_bounds-first-end
+slice_bounds-first-end c =
     sym (length-take-le _ c.args.self.now.shares.now (bytes_fit c.args.self.now.lending c.lent_count.result (rw c.fewest_readers-d.ensures at c.lent_count.ensures)))
 
-pub fill_share-requires-clause-input : goal.fill_share-requires-clause-input
-fill_share-requires-clause-input c =
+pub invariant_of-first : goal.invariant_of-first
+invariant_of-first c =
     let L = c.args.self.now.lending in
     let which = rw c.fewest_readers-d.ensures at c.lent_count.ensures in
-    rw c.fewest_readers-d.ensures (input L c.lent_count.result which, sent-all L)
+    record { input = rw c.fewest_readers-d.ensures (input L c.lent_count.result which) }
+
+pub fill_share-requires-clause-whole : goal.fill_share-requires-clause-whole
+fill_share-requires-clause-whole c = rw c.fewest_readers-d.ensures (sent-all c.args.self.now.lending)
 
 pub returns : goal.returns
 returns c =
