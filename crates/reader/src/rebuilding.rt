@@ -13,7 +13,7 @@ use crate::opening::{ROOM, SMALL};
 use scheme::{Parameters, Refusal, padding};
 
 // Why a call that rebuilds a share is refused: the shares do not agree, refusal 18, with the party without which they would,
-// 0 where there is none to name; or a refusal before it.
+// 0 where there is none to name, which no party is called (document 02, h, answers it so); or a refusal before it.
 #[derive(Clone, Copy, Debug, PartialEq, Eq)]
 pub enum RebuildRefusal {
     Disagreeing { party: u8 },

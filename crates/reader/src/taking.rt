@@ -10,7 +10,7 @@ ghost use Rattle.reader.specs.Opening.{HoldsWanted, rows_by};
 use interpolation::SIDE;
 use scheme::Scheme;
 
-// Which rows are taken.
+// Which rows are taken. No closure that counts them: it would need its own clauses in the contract of `open_range`.
 #[derive(Clone, Copy)]
 pub(crate) enum Take {
     All,

@@ -26,7 +26,7 @@ pub(crate) fn block_length(first: usize, z: u8, counts: &[u8]) -> Search
         }
         // m is tried: the first d - z divides it, do the others?
         tried += 1;
-        // By hand: document 01 asks for a `break` with a label out of the inner test, which a `for` has no place for.
+        // By hand: document 01 names this form, a `break` with a label and a value out of the inner test.
         let mut i = 1;
         loop {
             if i == counts.len() {
