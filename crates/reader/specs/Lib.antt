@@ -11,3 +11,4 @@ pub mod Opening
 pub mod ReconstructPadded
 pub mod Prefixes
 pub mod Rows
+pub mod Taking

@@ -5,6 +5,7 @@ ghost use Rattle.reader.specs.ReconstructPadded.{ReconstructPaddedCall};
 
 use crate::ending::Ending;
 use crate::opening::open;
+use crate::readers::Readers;
 use scheme::{Parameters, Refusal, padding};
 
 // What is answered of a padded message that was opened: the prefix bytes used, and the message's length.
@@ -49,7 +50,8 @@ pub fn reconstruct_padded(
     if out.len() != size {
         return Err(Refusal::OutputLength);
     }
-    let found = open(s, blocks, rows, parties, prefixes, Ending::Sought, 0, out);
+    let readers = Readers { scheme: s, parties };
+    let found = open(readers, blocks, rows, prefixes, Ending::Sought, 0, out);
     let length = found.end.ok_or(Refusal::Padding)?;
     Ok(PaddedOpening {
         used: found.used,

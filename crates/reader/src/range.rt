@@ -6,6 +6,7 @@ ghost use Rattle.reader.specs.Opening.{OpenedCall};
 
 use crate::ending::Ending;
 use crate::opening::open;
+use crate::readers::Readers;
 use crate::taking::{Take, rows_by};
 use scheme::{Form, Parameters, Refusal};
 
@@ -76,8 +77,9 @@ pub(crate) fn open_range(
     if out.len() != range_length {
         return Err(Refusal::OutputLength);
     }
-    let many = rows_by(take, s, d, start, range_length);
-    let found = open(s, blocks, many, parties, prefixes, Ending::Told, start, out);
+    let readers = Readers { scheme: s, parties };
+    let many = rows_by(take, readers, start, range_length);
+    let found = open(readers, blocks, many, prefixes, Ending::Told, start, out);
     Ok(found.used)
 }
 

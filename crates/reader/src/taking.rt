@@ -3,12 +3,12 @@
 ghost use Rattle.std.specs.Prelude.{◌≡◌, ℕ, ◌+◌, ◌-◌, ◌%◌, ◌≤◌, ◌<◌, ltb};
 ghost use Rattle.interpolation.specs.Interpolation.{side};
 ghost use Rattle.scheme.specs.Limits.{max_block};
-ghost use Rattle.order.specs.RowsTaken.{rows_taken};
 ghost use Rattle.reader.specs.Decoding as decoding;
-ghost use Rattle.reader.specs.Opening.{HoldsWanted, rows_by};
+ghost use Rattle.reader.specs.Opening.{HoldsWanted};
+ghost use Rattle.reader.specs.Taking.{rows_taken, rows_by};
 
+use crate::readers::Readers;
 use interpolation::SIDE;
-use scheme::Scheme;
 
 // Which rows are taken. No closure that counts them: it would need its own clauses in the contract of `open_range`.
 // That d is a count is asked by three functions, the two below and `open`: a struct of a scheme and d would be made for each.
@@ -18,23 +18,23 @@ pub(crate) enum Take {
     Needed,
 }
 
-// The number of rows that are taken, of those that d parties send.
-pub(crate) fn rows_by(take: Take, s: Scheme, d: usize, start: usize, range_length: usize) -> usize
-    requires { decoding.Counted s s.counts.now d }
-    ensures { result ≡ rows_by take (decoding.sent_rows s.entry d) (rows_taken s.entry.block s.entry.z s.entry.counts.now d start range_length) }
+// The number of rows that are taken, of those that the parties send.
+pub(crate) fn rows_by(take: Take, readers: Readers<'_>, start: usize, range_length: usize) -> usize
+    ensures { result ≡ rows_by take readers.entry start range_length }
 {
     match take {
-        Take::All => s.prefix_rows(d),
-        Take::Needed => rows_taken(s, d, start, range_length),
+        Take::All => readers.scheme.prefix_rows(readers.parties.len()),
+        Take::Needed => rows_taken(readers, start, range_length),
     }
 }
 
 // The rows taken for a range: up to the last turn in which a byte of the range stands below degree d. Each byte does so
 // in one turn alone, and in no earlier turn it stands at all, so it is not known before.
-fn rows_taken(s: Scheme, d: usize, start: usize, range_length: usize) -> usize
-    requires { decoding.Counted s s.counts.now d }
-    ensures { result ≡ rows_taken s.entry.block s.entry.z s.entry.counts.now d start range_length }
+fn rows_taken(readers: Readers<'_>, start: usize, range_length: usize) -> usize
+    ensures { result ≡ rows_taken readers.entry start range_length }
 {
+    let s = readers.scheme;
+    let d = readers.parties.len();
     let groups = order::group_number(s.counts, d);
     let from = start % s.block;
     for turn in (0..s.prefix_rows(d)).rev() {

@@ -11,7 +11,7 @@ use Rattle.scheme.proofs.Laws.{pass, stop_scheme, stop_true, pass_false}
 use Rattle.staircase.specs.Parameters.{given_parameters, parameters_of}
 use Rattle.staircase.proofs.Sizes.{count_most}
 use Rattle.reader.specs.ReconstructPadded.{blocks_sent}
-use Rattle.reader.proofs.CountedScheme.{given_own}
+use Rattle.reader.proofs.CountedScheme.{given_own, counted_own}
 use Rattle.reader.proofs.OpenerAnswers.{rows_small}
 use Rattle.reader.proofs.PaddedAnswers.{told_blocks_lem, size_small, stops, to_blocks, BlocksTold, sought_fits, sought_turns, other_size, ends_nowhere, ends_at}
 use Rattle.reader.proofs.padded.reconstruct_padded.Goals as goal
@@ -83,6 +83,11 @@ pub returns-then-out-size : goal.returns-then-out-size
 returns-then-out-size c =
     let g = goal.at.returns-then-out-size c in
     rw (own g.In_ok-s) (other_size (told g.Else-blocks-eq0) c.args.out.now c.if-out-size.true)
+
+pub invariant_of-readers : goal.invariant_of-readers
+invariant_of-readers c =
+    let u = (goal.at.invariant_of-readers c).Else-unordered in
+    record { counted = counted_own c.in_ok-s.s _ (counted u); rising = rising u }
 
 pub open-found-requires-clause-sizes : goal.open-found-requires-clause-sizes
 open-found-requires-clause-sizes c = sought_fits (told (goal.at.open-found-requires-clause-sizes c).Else-blocks-eq0) c.args.out.now c.if-out-size.false

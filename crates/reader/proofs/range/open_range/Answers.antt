@@ -121,6 +121,16 @@ returns-then-out-range_length c =
     (to_sizes c.in_ok-s.s _ _ _ _ (told e).1 (counted e).count (rising e) (within g.Else-past)
     (pass_same 9 (c.if-prefixes-sent.false ∙ sent_are e) (stop_other c.if-out-range_length.true))))
 
+pub invariant_of-readers : goal.invariant_of-readers
+invariant_of-readers c =
+    let e = (goal.at.invariant_of-readers c).After-prefix_rows in
+    record { counted = counted e; rising = rising e }
+
+pub invariant_of-readers-2 : goal.invariant_of-readers-2
+invariant_of-readers-2 c =
+    let e = (goal.at.invariant_of-readers-2 c).After-prefix_rows in
+    record { counted = counted e; rising = rising e }
+
 pub open-found-requires-clause-sizes : goal.open-found-requires-clause-sizes
 open-found-requires-clause-sizes c =
     let a = c.args in

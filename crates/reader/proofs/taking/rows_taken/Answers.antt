@@ -1,5 +1,5 @@
 -- The row of each turn, and whether it holds a wanted byte.
-use Rattle.std.proofs.Common.{◌≡◌, ℕ, ◌-◌, refl, replicate, arith}
+use Rattle.std.proofs.Common.{◌≡◌, ℕ, ◌-◌, refl, replicate, length, arith}
 use native.Mathlib.Nat.{mod-lt}
 use Rattle.std.proofs.lemmas.List.{length-replicate}
 use Rattle.interpolation.specs.Interpolation.{side}
@@ -13,32 +13,35 @@ use Rattle.reader.proofs.taking.rows_taken.Goals as goal
 use Rattle.reader.proofs.taking.rows_taken.Goals.{After-row_origins, After-holds_wanted}
 
 row_is : (c : After-row_origins)
-    → let s = c.args.s in
-    c.row_in_turn-j.result ≡ row_in_turn s.block s.z s.counts.now c.args.d (c.loop-turn.turn - 1)
+    → let s = c.args.readers.scheme in
+    c.row_in_turn-j.result ≡ row_in_turn s.block s.z s.counts.now (length c.args.readers.parties.now) (c.loop-turn.turn - 1)
 row_is c = code_turn _ _ _ _ _ _ _ c.group_number-groups.ensures c.row_in_turn-j.ensures
 
-below : (c : After-row_origins) → PlacesBelow c.args.s.z c.args.d c.args.s.block c.row_origins.new.places
+below : (c : After-row_origins)
+    → let s = c.args.readers.scheme in
+    PlacesBelow s.z (length c.args.readers.parties.now) s.block c.row_origins.new.places
 below c =
-    places_below c.requires c.args.start c.args.range_length c.loop-turn.turn c.row_in_turn-j.result c.loop-turn-test.true c.loop-turn.invariant.0 (row_is c)
+    places_below c.args.readers.counted c.args.start c.args.range_length c.loop-turn.turn c.row_in_turn-j.result c.loop-turn-test.true c.loop-turn.invariant.0 (row_is c)
     c.row_origins.new.places (replicate side 0) (length-replicate {A = ℕ} side 0) c.row_origins.ensures.1
 
 holds : (c : After-holds_wanted)
-    → let s = c.args.s in
-    HoldsWanted s.block c.args.start c.args.range_length s.z c.args.d c.row_origins.new.places c.holds_wanted.result
+    → let s = c.args.readers.scheme in
+    HoldsWanted s.block c.args.start c.args.range_length s.z (length c.args.readers.parties.now) c.row_origins.new.places c.holds_wanted.result
 holds c = rw c.from.ensures at (c.holds_wanted.ensures c.args.start refl)
 
 pub nonzero_rem-from : goal.nonzero_rem-from
-nonzero_rem-from c = (A c.requires).least.positive
+nonzero_rem-from c = (A c.args.readers.counted).least.positive
 
 pub holds_wanted-requires : goal.holds_wanted-requires
 holds_wanted-requires c =
     let o = (goal.at.holds_wanted-requires c).After-row_origins in
-    ((A c.requires).limit, mod-lt c.args.start (A c.requires).least.positive, count_high c.requires, λ e low. below o e (rw c.from.ensures at low))
+    let C = c.args.readers.counted in
+    ((A C).limit, mod-lt c.args.start (A C).least.positive, count_high C, λ e low. below o e (rw c.from.ensures at low))
 
 pub returns-then-holds_wanted : goal.returns-then-holds_wanted
 returns-then-holds_wanted c =
     let o = (goal.at.returns-then-holds_wanted c).After-row_origins in
-    found_here c.requires c.args.start c.args.range_length c.loop-turn.turn c.row_in_turn-j.result c.loop-turn-test.true c.loop-turn.invariant.0 (row_is o)
+    found_here c.args.readers.counted c.args.start c.args.range_length c.loop-turn.turn c.row_in_turn-j.result c.loop-turn-test.true c.loop-turn.invariant.0 (row_is o)
     c.row_origins.new.places (replicate side 0) (length-replicate {A = ℕ} side 0) c.row_origins.ensures.1 c.holds_wanted.result
     (holds (goal.at.returns-then-holds_wanted c).After-holds_wanted) c.loop-turn.invariant.1 c.if-holds_wanted.true
 
@@ -46,11 +49,11 @@ pub loop-turn-preserved : goal.loop-turn-preserved
 loop-turn-preserved c =
     let o = (goal.at.loop-turn-preserved c).After-row_origins in (
       omega (arith, c.loop-turn.invariant.0),
-      none_more c.requires c.args.start c.args.range_length c.loop-turn.turn c.row_in_turn-j.result c.loop-turn-test.true c.loop-turn.invariant.0 (row_is o)
+      none_more c.args.readers.counted c.args.start c.args.range_length c.loop-turn.turn c.row_in_turn-j.result c.loop-turn-test.true c.loop-turn.invariant.0 (row_is o)
           c.row_origins.new.places (replicate side 0) (length-replicate {A = ℕ} side 0) c.row_origins.ensures.1 c.holds_wanted.result
           (holds (goal.at.loop-turn-preserved c).After-holds_wanted) c.loop-turn.invariant.1 c.if-holds_wanted.false,
     )
 
 pub returns : goal.returns
 returns c =
-    found_none c.requires c.args.start c.args.range_length c.loop-turn.turn (omega (arith, c.loop-turn-test.false)) c.loop-turn.invariant.1
+    found_none c.args.readers.counted c.args.start c.args.range_length c.loop-turn.turn (omega (arith, c.loop-turn-test.false)) c.loop-turn.invariant.1
