@@ -43,9 +43,9 @@ use Rattle.rows.proofs.Scheme.{facts_of, rows_high}
 use Rattle.order.proofs.RowsTaken.{reached_all}
 use Rattle.agreement.specs.Agreement.{share_in, enough, first_shares, found_blocks, found_keys, rebuilt, agrees, agrees_without, named, Lent}
 use Rattle.agreement.proofs.Laws.{all-sent, rebuilt_long, found-bytes, found_keys-bytes, found_gives, names_none, first-given, lent-left, agrees-all, agrees-not}
-use Rattle.reader.specs.Decoding.{WeightsOf, sent_rows, read_from, Input, Sent, EachSent, Found}
+use Rattle.reader.specs.Decoding.{WeightsOf, sent_rows, read_from, Counted, Input, Sent, EachSent, Found}
 use Rattle.reader.specs.Filling.{share_at, FillsShare}
-use Rattle.reader.specs.Agreeing.{Lending, weights_in, found_in, rebuilt_in, agrees_in, same_at}
+use Rattle.reader.specs.Agreeing.{Lending, first_in, weights_in, found_in, rebuilt_in, agrees_in, same_at}
 use Rattle.reader.proofs.CountedScheme.{count_in}
 use Rattle.reader.proofs.Reading.{largest_weights, sent_by}
 use Rattle.reader.proofs.RowOrder.{found_all}
@@ -166,57 +166,60 @@ module _ {s : Scheme} {parties : List ℕ} {blocks skip : ℕ} {shares : List �
   first-same : take (d * (s.rows * blocks)) left_shares ≡ first_shares p blocks left_shares
   first-same = ap (λ (b : ℕ). take (d * (b * blocks)) left_shares) s.accepted.rows_is
 
+  counted : Counted s s.counts.now d
+  counted = record { scheme = scheme_own s; count = count_of }
+
   -- what is read are the shares of the first d parties
   module _ (m : ℕ) (which : ((skip < d) × (m ≡ d + 1)) ⊎ ((d ≤ skip) × (m ≡ d))) where
-    read : read_from s d blocks skip (take (m * (s.rows * blocks)) shares) ≡ take (d * (s.rows * blocks)) left_shares
+    pub read : read_from s d blocks skip (take (m * (s.rows * blocks)) shares) ≡ first_in s blocks skip shares
     read = rw sent-all (take-without (s.rows * blocks) skip d m shares first_room (bytes_fit m which) which)
 
     pub input : Input s s.counts.now d blocks (read_from s d blocks skip (take (m * (s.rows * blocks)) shares))
     input =
         record {
-          counted = record { scheme = scheme_own s; count = count_of };
+          counted = counted;
           blocks_high = L.blocks_high;
           prefixes_long = ap length read ∙ length-take-le (d * (s.rows * blocks)) left_shares first_room ∙ ap (λ (x : ℕ). d * (x * blocks)) (sym sent-all);
         }
 
-    sent-first : Sent s s.counts.now (length core) blocks (map (point p) core) (take (d * (s.rows * blocks)) left_shares) found keys
-    sent-first =
-        sent_by s s.counts.now (scheme_own s) core (rw core_long count_of) (apart, inside) blocks (take (d * (s.rows * blocks)) left_shares) found keys
-        (found-bytes p left blocks left_shares lent L.many) (found_keys-bytes p left blocks left_shares lent L.many)
-        (rw (all-sent p s.accepted.passed core core_long apart inside, first-same) (found_gives p left blocks left_shares lent L.many))
+  sent-first : Sent s s.counts.now (length core) blocks (map (point p) core) (first_in s blocks skip shares) found keys
+  sent-first =
+      sent_by s s.counts.now (scheme_own s) core (rw core_long count_of) (apart, inside) blocks (first_in s blocks skip shares) found keys
+      (found-bytes p left blocks left_shares lent L.many) (found_keys-bytes p left blocks left_shares lent L.many)
+      (rw (all-sent p s.accepted.passed core core_long apart inside, first-same) (found_gives p left blocks left_shares lent L.many))
 
-    sent : Sent s s.counts.now d blocks (map (point p) core) (read_from s d blocks skip (take (m * (s.rows * blocks)) shares)) found keys
-    sent = rw read (rw core_long at sent-first)
+  sent : Sent s s.counts.now d blocks (map (point p) core) (first_in s blocks skip shares) found keys
+  sent = rw core_long at sent-first
 
-    -- the weights are those for the largest count
-    module _ (weights : List (List ℕ)) (weights-are : weights ≡ weights_in s parties skip) where
-      weighed : WeightsOf (map (point p) core) d (get_or s.counts.now 0 0) weights
-      weighed = rw weights-are (rw core_long at (largest_weights s s.counts.now (scheme_own s) core (rw core_long count_of) (apart, inside) blocks))
+  -- the weights are those for the largest count
+  module _ (weights : List (List ℕ)) (weights-are : weights ≡ weights_in s parties skip) where
+    weighed : WeightsOf (map (point p) core) d (get_or s.counts.now 0 0) weights
+    weighed = rw weights-are (rw core_long at (largest_weights s s.counts.now (scheme_own s) core (rw core_long count_of) (apart, inside) blocks))
 
-      found_long : length found ≡ blocks * s.block
-      found_long = (found-bytes p left blocks left_shares lent L.many).0 ∙ ap (λ (x : ℕ). blocks * x) (sym s.accepted.block_is)
+    found_long : length found ≡ blocks * s.block
+    found_long = (found-bytes p left blocks left_shares lent L.many).0 ∙ ap (λ (x : ℕ). blocks * x) (sym s.accepted.block_is)
 
-      -- the loops find the blocks
-      pub opened : (work : List ℕ) → length work ≡ blocks * s.block
-          → EachSent s s.counts.now d blocks weights (read_from s d blocks skip (take (m * (s.rows * blocks)) shares)) (λ B. Found s s.counts.now d blocks s.rows B work)
-          → work ≡ found_in s parties blocks skip shares
-      opened work long E =
-          found_all s s.counts.now d blocks s.rows 0 (blocks * s.block) found work
-          (rw (← sent-all) (reached_all (count_in input.counted) 0 (blocks * s.block)))
-          (E found keys (map (point p) core) weighed sent) (omega arith) found_long long refl refl
+    -- the loops find the blocks
+    pub opened : (work : List ℕ) → length work ≡ blocks * s.block
+        → EachSent s s.counts.now d blocks weights (first_in s blocks skip shares) (λ B. Found s s.counts.now d blocks s.rows B work)
+        → work ≡ found_in s parties blocks skip shares
+    opened work long E =
+        found_all s s.counts.now d blocks s.rows 0 (blocks * s.block) found work
+        (rw (← sent-all) (reached_all (count_in counted) 0 (blocks * s.block)))
+        (E found keys (map (point p) core) weighed sent) (omega arith) found_long long refl refl
 
-      share_is : (party : ℕ) → share_at s s.counts.now blocks found keys (point p party) ≡ share_in p blocks found keys party
-      share_is party =
-          share_at_is s s.counts.now (scheme_own s) blocks found keys (found-bytes p left blocks left_shares lent L.many).0 (found_keys-bytes p left blocks left_shares lent L.many).0 party
+    share_is : (party : ℕ) → share_at s s.counts.now blocks found keys (point p party) ≡ share_in p blocks found keys party
+    share_is party =
+        share_at_is s s.counts.now (scheme_own s) blocks found keys (found-bytes p left blocks left_shares lent L.many).0 (found_keys-bytes p left blocks left_shares lent L.many).0 party
 
-      -- and fill in the share of any party
-      pub refilled : (x party : ℕ) → x ≡ point p party → (chosen : List ℕ) → chosen ≡ tabulate side (value_weight weights d x) → (work out : List ℕ)
-          → work ≡ found_in s parties blocks skip shares
-          → FillsShare s s.counts.now d blocks chosen (read_from s d blocks skip (take (m * (s.rows * blocks)) shares)) work out
-          → out ≡ rebuilt_in s parties blocks skip shares party
-      unfolding rebuilt
-      refilled x party x-is chosen chosen_is work out work-is F =
-          F found keys (map (point p) core) weights x weighed chosen_is sent work-is ∙ ap (share_at s s.counts.now blocks found keys) x-is ∙ share_is party
+    -- and fill in the share of any party
+    pub refilled : (x party : ℕ) → x ≡ point p party → (chosen : List ℕ) → chosen ≡ tabulate side (value_weight weights d x) → (work out : List ℕ)
+        → work ≡ found_in s parties blocks skip shares
+        → FillsShare s s.counts.now d blocks chosen (first_in s blocks skip shares) work out
+        → out ≡ rebuilt_in s parties blocks skip shares party
+    unfolding rebuilt
+    refilled x party x-is chosen chosen_is work out work-is F =
+        F found keys (map (point p) core) weights x weighed chosen_is sent work-is ∙ ap (share_at s s.counts.now blocks found keys) x-is ∙ share_is party
 
 -- ---- the test, place by place
 

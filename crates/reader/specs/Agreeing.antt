@@ -25,6 +25,10 @@ pub record RoomFits (s : Scheme) (blocks : ℕ) : Type 0 where
   pub blocks_fit : blocks * s.block ≤ max_message + max_block
   pub share_fits : s.rows * blocks ≤ blocks * s.block
 
+-- the first n − r shares that are left
+abbrev pub first_in : Scheme → ℕ → ℕ → List ℕ → List ℕ
+first_in s blocks skip shares = take ((s.n - s.r) * (s.rows * blocks)) (without_piece (s.rows * blocks) skip shares)
+
 -- the weights of an opening by the first n − r parties that are left
 abbrev pub weights_in : Scheme → List ℕ → ℕ → List (List ℕ)
 weights_in s parties skip = opening_table (map (point (parameters_of s)) (take (s.n - s.r) (without skip parties))) (get_or s.counts.now 0 0)

@@ -8,7 +8,7 @@ ghost use Rattle.lists.specs.Without.{without};
 ghost use Rattle.interpolation.specs.Interpolation.{side};
 ghost use Rattle.staircase.specs.Parameters.{Parameters, parameters_of, point};
 ghost use Rattle.agreement.specs.Agreement.{named};
-ghost use Rattle.reader.specs.Lent.{weights_of, found_by, rebuilt_by, agrees_by, same_by};
+ghost use Rattle.reader.specs.Lent.{FirstShares, weights_of, found_by, rebuilt_by, agrees_by, same_by};
 
 use crate::ending::nonzero;
 use crate::lent::Lent;
@@ -59,23 +59,29 @@ impl Lent<'_> {
         interpolation::opening_weights(&points[..d], usize::from(self.scheme.counts[0]))
     }
 
+    // The first n - r shares that are left, as the prefixes of so many parties.
+    fn first_shares(&self) -> Prefixes<'_>
+        ensures { FirstShares self.now result }
+    {
+        let s = self.scheme;
+        let d = s.fewest_readers();
+        let end = lent_count(d, self.skip) * (s.rows * self.blocks);
+        Prefixes {
+            scheme: s,
+            d,
+            skip: self.skip,
+            blocks: self.blocks,
+            bytes: &self.shares[..end],
+        }
+    }
+
     // Decodes the blocks from the first n - r shares that are left.
     fn open(&self, weights: [[u8; SIDE]; SIDE], work: &mut [u8])
         requires weights { weights ≡ weights_of self.now }
         requires room { length work.old ≡ self.now.blocks * self.now.scheme.block }
         ensures { work.new ≡ found_by self.now }
     {
-        let s = self.scheme;
-        let d = s.fewest_readers();
-        let end = lent_count(d, self.skip) * (s.rows * self.blocks);
-        let first = Prefixes {
-            scheme: s,
-            d,
-            skip: self.skip,
-            blocks: self.blocks,
-            bytes: &self.shares[..end],
-        };
-        decoding::decode(first, s.rows, weights, work);
+        decoding::decode(self.first_shares(), self.scheme.rows, weights, work);
     }
 
     // The share of a party from the same shares and the blocks in the work buffer.
@@ -91,17 +97,8 @@ impl Lent<'_> {
         requires room { length out.old ≡ self.now.scheme.rows * self.now.blocks }
         ensures { out.new ≡ rebuilt_by self.now party }
     {
-        let s = self.scheme;
-        let d = s.fewest_readers();
-        let end = lent_count(d, self.skip) * (s.rows * self.blocks);
-        let chosen = interpolation::value_weights(weights, d, point_of(party));
-        let first = Prefixes {
-            scheme: s,
-            d,
-            skip: self.skip,
-            blocks: self.blocks,
-            bytes: &self.shares[..end],
-        };
+        let first = self.first_shares();
+        let chosen = interpolation::value_weights(weights, first.d, point_of(party));
         filling::fill_share(first, &chosen, work, out);
     }
 

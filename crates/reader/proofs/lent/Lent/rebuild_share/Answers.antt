@@ -1,33 +1,18 @@
-use Rattle.std.proofs.Common.{sym, arith}
-use lib.Seq.{length-take-le}
-use Rattle.reader.proofs.Lending.{few, share_short, sent-all, bytes_fit, bytes_few, input, refilled}
+use Rattle.reader.proofs.Lending.{sent-all, refilled}
 use Rattle.reader.proofs.lent.Lent.rebuild_share.Goals as goal
 
-pub lent_count-requires : goal.lent_count-requires
-lent_count-requires c = rw c.fewest_readers-d.ensures (few c.args.self.now.lending)
-
-pub overflow_mul-end : goal.overflow_mul-end
-overflow_mul-end c = omega (arith, share_short c.args.self.now.lending)
-
-pub overflow_mul-end-2 : goal.overflow_mul-end-2
-overflow_mul-end-2 c = omega (arith, bytes_few c.args.self.now.lending c.lent_count.result (rw c.fewest_readers-d.ensures at c.lent_count.ensures))
-
-pub slice_bounds-first-end : goal.slice_bounds-first-end
-slice_bounds-first-end c =
-    sym (length-take-le _ c.args.self.now.shares.now (bytes_fit c.args.self.now.lending c.lent_count.result (rw c.fewest_readers-d.ensures at c.lent_count.ensures)))
-
-pub invariant_of-first : goal.invariant_of-first
-invariant_of-first c =
-    let L = c.args.self.now.lending in
-    let which = rw c.fewest_readers-d.ensures at c.lent_count.ensures in
-    record { input = rw c.fewest_readers-d.ensures (input L c.lent_count.result which) }
-
 pub fill_share-requires-clause-whole : goal.fill_share-requires-clause-whole
-fill_share-requires-clause-whole c = rw c.fewest_readers-d.ensures (sent-all c.args.self.now.lending)
+fill_share-requires-clause-whole c =
+    let F = c.first_shares-first.ensures in
+    rw (F.scheme_is, F.d_is) (sent-all c.args.self.now.lending)
+
+pub fill_share-requires-clause-room : goal.fill_share-requires-clause-room
+fill_share-requires-clause-room c =
+    let F = c.first_shares-first.ensures in
+    rw (F.scheme_is, F.blocks_are) c.requires.room
 
 pub returns : goal.returns
 returns c =
-    let L = c.args.self.now.lending in
-    let which = rw c.fewest_readers-d.ensures at c.lent_count.ensures in
-    refilled L c.lent_count.result which _ c.requires.weights _ c.args.party (c.point_of.ensures _) _ (rw c.fewest_readers-d.ensures at c.value_weights-chosen.ensures) _ _
-    c.requires.found (rw c.fewest_readers-d.ensures at c.fill_share.ensures)
+    let F = c.first_shares-first.ensures in
+    refilled c.args.self.now.lending _ c.requires.weights _ c.args.party (c.point_of.ensures _) _ (rw F.d_is at c.value_weights-chosen.ensures) _ _
+    c.requires.found (rw (F.read_are, F.scheme_is, F.d_is, F.blocks_are) at c.fill_share.ensures)
