@@ -11,7 +11,6 @@ use crate::readers::Readers;
 use interpolation::SIDE;
 
 // Which rows are taken. No closure that counts them: it would need its own clauses in the contract of `open_range`.
-// That d is a count is asked by three functions, the two below and `open`: a struct of a scheme and d would be made for each.
 #[derive(Clone, Copy)]
 pub(crate) enum Take {
     All,
