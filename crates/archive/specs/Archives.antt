@@ -2,7 +2,7 @@
 -- its entries, every one, and what the writer wrote is the archive of what it was lent; no second archive has the same entries. A call is what its
 -- contract says of its answer and of what it writes or hands back. proofs/Theorems.antt proves these.
 -- Assumes nothing.
-use Rattle.std.specs.Prelude.{◌≡◌, ◌↔◌, List, [], ◌∷◌, map, ℕ, ◌≤◌, ◌<◌, length, get_or, Err, Ok, Result}
+use Rattle.std.specs.Prelude.{◌≡◌, ◌↔◌, List, [], ◌∷◌, map, ℕ, ◌≤◌, ◌<◌, length, get_or, Ok, Result}
 use Rattle.lists.specs.Each.{Each, Byte}
 use Rattle.lists.specs.Table.{flat}
 use Rattle.scheme.specs.declared.refusal.Refusal.{Refusal}

@@ -1,6 +1,6 @@
 -- Writing an archive: the entries are lent end to end, with their lengths.
 -- Assumes nothing.
-use Rattle.std.specs.Prelude.{◌≡◌, Bool, true, cond, not, ◌&&◌, List, [], ◌∷◌, ℕ, ◌+◌, ltb, leb, eqb, length, take, drop, Err, Ok, Result}
+use Rattle.std.specs.Prelude.{◌≡◌, Bool, true, cond, not, ◌&&◌, List, [], ◌∷◌, ℕ, ◌+◌, ltb, leb, eqb, length, take, drop, Result}
 use Rattle.scheme.specs.declared.refusal.Refusal.{Refusal}
 use Rattle.scheme.specs.Outcome.{Outcome, number_if, first_of, answer, outcome}
 use Rattle.archive.specs.Format.{max_entries, max_number, head_bytes, archive_of}

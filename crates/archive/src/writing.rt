@@ -1,5 +1,6 @@
 // Writing an archive.
 ghost use Rattle.std.specs.Prelude.{◌≡◌, true, ◌+◌, ◌≤◌, length, take};
+ghost use lib.Seq.{paste};
 ghost use Rattle.archive.specs.Format.{max_entries, head_bytes, head_of};
 ghost use Rattle.archive.specs.Writing.{lengths_fit, would_break, WriteCall};
 
@@ -29,8 +30,7 @@ pub fn write(contents: &[u8], lengths: &[usize], out: &mut [u8]) -> Result<usize
         return Err(Refusal::OutputLength);
     }
     put_head(lengths, out);
-    // The entries, end to end.
-    out[head..].copy_from_slice(contents);
+    put_contents(contents, head, out);
     Ok(bytes)
 }
 
@@ -63,5 +63,16 @@ fn put_head(lengths: &[usize], out: &mut [u8])
         put_number(out, at, offset);
         put_number(out, at + 2, size);
         offset += size;
+    }
+}
+
+// Writes the entries, end to end, from a place on. A loop: of `copy_from_slice` the compiler makes a call of memmove here,
+// and the header promises that the library needs memcpy and memset alone.
+fn put_contents(contents: &[u8], at: usize, out: &mut [u8])
+    requires { at + length contents.now ≤ length out.old }
+    ensures { out.new ≡ paste out.old at contents.now (length contents.now) }
+{
+    for (i, &byte) in contents.iter().enumerate() {
+        out[at + i] = byte;
     }
 }

@@ -1,5 +1,4 @@
 -- `archive::reading::entry_length` meets its contract: it is the length of the place that is found.
-use Rattle.std.proofs.Common.{refl}
 use Rattle.std.proofs.lemmas.Result.{err_from_is_err_and}
 use Rattle.archive.proofs.Lookup.{length-refused, length-told}
 use Rattle.archive.proofs.reading.entry_length.Goals as goal

@@ -1,5 +1,5 @@
 -- `archive::reading::entry_place` meets its contract: the file's refusals come first, and past them every pair stands in the file.
-use Rattle.std.proofs.Common.{arith, refl}
+use Rattle.std.proofs.Common.{arith}
 use Rattle.std.proofs.lemmas.Result.{err_from_is_err_and}
 use Rattle.archive.proofs.Lookup.{file-refused, no_entry, pair_within, entry_here}
 use Rattle.archive.proofs.reading.entry_place.Goals as goal

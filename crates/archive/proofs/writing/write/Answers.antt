@@ -37,7 +37,7 @@ returns c =
     answers (pass_within 12 (search rules) (pass_false 13 none (pass_same 10 room done)))
     in (
       rw c.head_bytes-head.ensures way,
-      rw ((answered_none _ _ _ way).0, c.copy_from_slice.ensures.after)
+      rw ((answered_none _ _ _ way).0, c.put_contents.ensures)
           (after_head x.lengths.now x.contents.now c.put_head.new.out _ c.head_bytes-head.ensures (c.put_head.auto.out ∙ room) c.put_head.ensures
           ∙ sym (cut-laid x.lengths.now x.contents.now (unbroken _ _ none).1)),
     )
