@@ -1,6 +1,7 @@
 -- Every call on archives in words: each test of a call reflects the line of the table at its place, and what a call hands back or leaves follows from
 -- its answer. And the words settle a call.
 -- Assumes nothing.
+use Rattle.std.specs.Prelude.{Result, Ok, Err}
 use mathlib.Core.Path.{◌≡◌, refl, sym, ap, ◌∙◌}
 use mathlib.Core.List.{List, [], ◌∷◌}
 use Prim.Native.Nat.{ℕ}
@@ -8,14 +9,13 @@ use native.Mathlib.Omega.{arith}
 use lib.Dec.{leb}
 use lib.ListN.{length, drop, length-drop}
 use lib.Seq.{length-take-le}
-use Rattle.scheme.specs.declared.Answer.{Answer}
-use Rattle.scheme.specs.declared.Answer.TheVariants.{Value, Refused}
+use Rattle.scheme.specs.declared.refusal.Refusal.{Refusal}
+use Rattle.scheme.specs.Refusals as refusals
 use Rattle.scheme.specs.Outcome.{accepted, refused, number_if}
 use Rattle.scheme.specs.Grounds.{Ground, NoneApplies, FirstApplies}
-use Rattle.scheme.proofs.Laws.{Tested, end, line, above, other, answered_by, none_first, first-once, accepted_none, refused-first, told-refused, kept}
+use Rattle.scheme.proofs.Laws.{number_same, Tested, end, line, above, other, answered_by, none_first, first-once, accepted_none, refused-first, told-refused, kept}
 use Rattle.sharing.proofs.Calls.{one_answer}
-use Rattle.archive.specs.declared.reading.EntryAnswer.{EntryAnswer}
-use Rattle.archive.specs.declared.reading.EntryAnswer.TheVariants.{At, Refused as EntryRefused}
+use Rattle.archive.specs.declared.pairs.Pair.{Pair}
 use Rattle.archive.specs.Reading.{count_of, cut_short, rules_broken, file_refusal, count_answer, entry_refusal, entry_outcome, place_answer, entry_length_answer}
 use Rattle.archive.specs.Writing.{write_refusal, write_answer, write_output, WriteCall}
 use Rattle.archive.specs.Calls.{EveryCount, entry_lines, EntryAnsweredBy, EveryPlace, EveryLength, HandsBack, EveryEntry, Leaves, EveryWrite, ArchiveWordsSettle}
@@ -47,21 +47,23 @@ module _ (file : List ℕ) (number : ℕ) where
   unplaced q e = refused-first entry_tested _ q _ e
 
   -- and the other way
-  placed_by : (a : EntryAnswer) → entry_outcome a ≡ place_answer file number → NoneApplies (entry_lines file number) → (o : ℕ) × (s : ℕ) × (a ≡ At o s)
-  placed_by (At o s) e n = (o, s, refl)
-  placed_by (EntryRefused q) e n = absurd (none_first (entry_lines file number) q n (unplaced q e))
+  placed_by : (a : Result Pair Refusal) → entry_outcome a ≡ place_answer file number → NoneApplies (entry_lines file number) → (place : Pair) × (a ≡ Ok place)
+  placed_by (Ok place) e n = (place, refl)
+  placed_by (Err q) e n = absurd (none_first (entry_lines file number) (refusals.number q) n (unplaced (refusals.number q) e))
 
-  unplaced_by : (q : ℕ) (a : EntryAnswer) → entry_outcome a ≡ place_answer file number → FirstApplies q (entry_lines file number) → a ≡ EntryRefused q
-  unplaced_by q (At o s) e f = absurd (none_first (entry_lines file number) q (placed o s e) f)
-  unplaced_by q (EntryRefused k) e f = ap EntryRefused (first-once (entry_lines file number) k q (unplaced k e) f)
+  unplaced_by : (q : Refusal) (a : Result Pair Refusal) → entry_outcome a ≡ place_answer file number
+      → FirstApplies (refusals.number q) (entry_lines file number) → a ≡ Err q
+  unplaced_by q (Ok place) e f = absurd (none_first (entry_lines file number) (refusals.number q) (placed place.offset place.length e) f)
+  unplaced_by q (Err k) e f =
+      ap Err (number_same k q (first-once (entry_lines file number) (refusals.number k) (refusals.number q) (unplaced (refusals.number k) e) f))
 
 -- so it answers by its lines, with the offset and the length that the file says
 pub place_in_words : EveryPlace
 place_in_words file number a e =
     record {
-      accepts = (λ told. placed file number told.0 told.1 (sym (ap entry_outcome told.2) ∙ e), placed_by file number a e);
-      refuses = λ q. (λ told. unplaced file number q (sym (ap entry_outcome told) ∙ e), unplaced_by file number q a e);
-      place_is = λ o s told. (offset_told file number a e told, size-told file number a e told);
+      accepts = (λ told. placed file number (told.0).offset (told.0).length (sym (ap entry_outcome told.1) ∙ e), placed_by file number a e);
+      refuses = λ q. (λ told. unplaced file number (refusals.number q) (sym (ap entry_outcome told) ∙ e), unplaced_by file number q a e);
+      place_is = λ place told. (offset_told file number a e told, size-told file number a e told);
     }
 
 -- the length alone, by the same lines
@@ -71,19 +73,19 @@ length_in_words file number a e = answered_by (entry_tested file number) _ a e
 
 -- the entry lies within the file, so the part has as many bytes as was answered
 pub entry_in_words : EveryEntry
-entry_in_words file number (At offset size) part e is =
-    let part-here = is ∙ sym (part_is file number (At offset size) e refl) in
-    let within = part-within file number (At offset size) e refl in
-    (part-here, ap length part-here ∙ length-take-le size (drop offset file) (rw length-drop (omega arith)))
-entry_in_words file number (EntryRefused q) part e is = is ∙ sym (no_part file number (EntryRefused q) e refl)
+entry_in_words file number (Ok place) part e is =
+    let part-here = is ∙ sym (part_is file number (Ok place) e refl) in
+    let within = part-within file number (Ok place) e refl in
+    (part-here, ap length part-here ∙ length-take-le place.length (drop place.offset file) (rw length-drop (omega arith)))
+entry_in_words file number (Err q) part e is = is ∙ sym (no_part file number (Err q) e refl)
 
 -- ---- the writer
 
 -- what it leaves, by its answer
-leaves : (contents sizes before : List ℕ) (a : Answer) (after : List ℕ) → WriteCall contents sizes before a after → Leaves contents sizes before a after
+leaves : (contents sizes before : List ℕ) (a : Result ℕ Refusal) (after : List ℕ) → WriteCall contents sizes before a after → Leaves contents sizes before a after
 unfolding write_answer write_output
-leaves contents sizes before (Value bytes) after C = (wrote contents sizes before bytes after C).archive
-leaves contents sizes before (Refused number) after C = C.1 ∙ sym (kept _ (told-refused (Refused number) _ _ C.0 refl))
+leaves contents sizes before (Ok bytes) after C = (wrote contents sizes before bytes after C).archive
+leaves contents sizes before (Err q) after C = C.1 ∙ sym (kept _ (told-refused (Err q) _ _ C.0 refl))
 
 -- lines 12, 13 and 10
 pub write_in_words : EveryWrite
@@ -96,26 +98,30 @@ write_in_words contents sizes before a after C =
 
 -- ---- the words settle a call
 
+abbrev pair_of : ℕ → ℕ → Pair
+pair_of offset size = record { offset = offset; length = size }
+
 -- no two lookups answer by the same lines and the same place
-one_place : {grounds : List Ground} {offset size : ℕ} (a a' : EntryAnswer)
+one_place : {grounds : List Ground} {offset size : ℕ} (a a' : Result Pair Refusal)
     → EntryAnsweredBy grounds offset size a → EntryAnsweredBy grounds offset size a' → a ≡ a'
-one_place (At o s) a' A A' =
-    let found = A'.accepts.1 (A.accepts.0 (o, s, refl)) in
-    let here = A.place_is o s refl in
-    let there = A'.place_is found.0 found.1 found.2 in
-    cc (here.0, here.1, there.0, there.1, found.2)
-one_place (EntryRefused q) a' A A' = sym ((A'.refuses q).1 ((A.refuses q).0 refl))
+one_place (Ok place) a' A A' =
+    let found = A'.accepts.1 (A.accepts.0 (place, refl)) in
+    let here = A.place_is place refl in
+    let there = A'.place_is found.0 found.1 in
+    let same : pair_of place.offset place.length ≡ pair_of (found.0).offset (found.0).length = cc (here.0, here.1, there.0, there.1) in
+    ap Ok same ∙ sym found.1
+one_place (Err q) a' A A' = sym ((A'.refuses q).1 ((A.refuses q).0 refl))
 
 -- with one answer there are no two parts
-one_part : (file : List ℕ) (a : EntryAnswer) (part part' : List ℕ) → HandsBack file a part → HandsBack file a part' → part ≡ part'
-one_part file (At offset size) part part' H H' = H.0 ∙ sym H'.0
-one_part file (EntryRefused q) part part' H H' = H ∙ sym H'
+one_part : (file : List ℕ) (a : Result Pair Refusal) (part part' : List ℕ) → HandsBack file a part → HandsBack file a part' → part ≡ part'
+one_part file (Ok place) part part' H H' = H.0 ∙ sym H'.0
+one_part file (Err q) part part' H H' = H ∙ sym H'
 
 -- and no two outputs
-one_output : (contents sizes before : List ℕ) (a : Answer) (after after' : List ℕ)
+one_output : (contents sizes before : List ℕ) (a : Result ℕ Refusal) (after after' : List ℕ)
     → Leaves contents sizes before a after → Leaves contents sizes before a after' → after ≡ after'
-one_output contents sizes before (Value bytes) after after' L L' = L.is ∙ sym L'.is
-one_output contents sizes before (Refused number) after after' L L' = L ∙ sym L'
+one_output contents sizes before (Ok bytes) after after' L L' = L.is ∙ sym L'.is
+one_output contents sizes before (Err q) after after' L L' = L ∙ sym L'
 
 -- so for each call
 pub archive_words_settle : ArchiveWordsSettle

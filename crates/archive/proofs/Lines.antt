@@ -1,6 +1,6 @@
 -- The tests of a file, and of contents to be written, reflect the lines of the table: each is true where its line applies, and false where it does not.
 -- Assumes nothing.
-use mathlib.Core.Path.{◌≡◌, sym, ◌∙◌}
+use mathlib.Core.Path.{◌≡◌, refl, sym, ◌∙◌}
 use mathlib.Core.Bool.{true≢false}
 use mathlib.Core.Logic.{◌⊎◌, inl, inr, ⊎_elim, ◌≢◌}
 use mathlib.Core.List.{List}
@@ -57,7 +57,7 @@ cut_short_lem file =
           or_then (lt_or_le (length file) 2)
           (λ counted.
           or_then (lt_or_le max_entries c)
-          (λ few. or_absurd (lt_or_le (length file) (head_bytes c)) (λ whole. true≢false (sym e ∙ not-cut file counted few whole))));
+          (λ few. or_absurd (lt_or_le (length file) (head_bytes c)) (λ whole. true≢false (sym e ∙ not-cut file c refl counted few whole))));
       fails = λ e.
           let whole = uncut file e in
           ⊎_elim (λ short. omega (arith, whole.0)) (⊎_elim (λ many. omega (arith, whole.1)) (λ short. omega (arith, whole.2)));

@@ -1,8 +1,8 @@
 -- The test of a file as the loop makes it, pair by pair, and what it answers at each way out.
 -- Assumes nothing.
 use mathlib.Core.Path.{◌≡◌, refl, sym, ◌∙◌}
-use mathlib.Core.Bool.{true, false}
-use mathlib.Core.Logic.{⊎_elim}
+use mathlib.Core.Bool.{true, false, and-false}
+use mathlib.Core.Logic.{◌⊎◌, ⊎_elim}
 use mathlib.Core.List.{List, [], ◌∷◌}
 use Prim.Native.Nat.{ℕ, zero, suc, ◌+◌, ◌≤◌, ◌<◌}
 use native.Mathlib.Nat.{not-suc-le-zero, le_of_suc-le-suc, eq-or-lt_of_le}
@@ -12,7 +12,9 @@ use lib.ListN.{length}
 use borrow.Author.Tests.{le-ltb, lt-ltb, eq-eqb, ne_eqb}
 use Rattle.scheme.specs.Outcome.{accepted, refused}
 use Rattle.scheme.proofs.Laws.{answers, done, stop_true, pass_false}
+use Rattle.archive.specs.declared.pairs.Pair.{Pair}
 use Rattle.archive.specs.Format.{max_entries, head_bytes}
+use Rattle.archive.specs.Pairs.{PairIs}
 use Rattle.archive.specs.Reading.{count_of, offset_of, length_of, start_of, cut_short, pairs_kept, rules_broken, file_refusal, count_answer}
 
 -- ---- 12
@@ -25,14 +27,6 @@ module _ (file : List ℕ) where
   pub no_count_lem : length file < 2 → refused 12 ≡ count_answer file
   unfolding cut_short
   no_count_lem short = stop_cut (rw (lt-ltb _ _ short))
-
-  pub too_many : 2 ≤ length file → max_entries < count_of file → refused 12 ≡ count_answer file
-  unfolding cut_short
-  too_many counted many = stop_cut (rw (le-ltb _ _ counted, lt-ltb _ _ many))
-
-  pub no_pair : 2 ≤ length file → count_of file ≤ max_entries → length file < head_bytes (count_of file) → refused 12 ≡ count_answer file
-  unfolding cut_short
-  no_pair counted few short = stop_cut (rw (le-ltb _ _ counted, le-ltb _ _ few, lt-ltb _ _ short))
 
 -- ---- the pairs, one after another
 
@@ -60,20 +54,24 @@ module _ (file : List ℕ) where
       broken bad = rw (broken_below i (count_of file) more bad)
 
       -- it starts elsewhere, it has no byte, it keeps the rules
-      pub elsewhere : (offset_of file i ≡ start → ⊥) → rules_broken file ≡ true
+      elsewhere : (offset_of file i ≡ start → ⊥) → rules_broken file ≡ true
       unfolding pairs_kept
       elsewhere other = broken (rw (s.kept, ne_eqb (offset_of file i) (start_of file i) (λ e. other (e ∙ sym s.here))))
 
-      pub empty : offset_of file i ≡ start → length_of file i ≡ 0 → rules_broken file ≡ true
+      empty : length_of file i ≡ 0 → rules_broken file ≡ true
       unfolding pairs_kept
-      empty same none = broken (rw (s.kept, eq-eqb (offset_of file i) (start_of file i) (same ∙ s.here), none))
+      empty none = broken (rw (none, and-false))
 
-    pub scanned_next : offset_of file i ≡ start → (length_of file i ≡ 0 → ⊥) → Scanned file (offset_of file i + length_of file i) (i + 1)
+      pub unkept : {pair : Pair} → PairIs file i pair → (pair.offset ≡ start → ⊥) ⊎ ((pair.offset ≡ start) × (pair.length ≡ 0)) → rules_broken file ≡ true
+      unkept is = ⊎_elim (λ other. elsewhere (λ e. other (is.offset_is ∙ e))) (λ bad. empty (sym is.length_is ∙ bad.1))
+
+    pub scanned_next : {pair : Pair} → PairIs file i pair → pair.offset ≡ start → (pair.length ≡ 0 → ⊥) → Scanned file (pair.offset + pair.length) (i + 1)
     unfolding start_of pairs_kept
-    scanned_next same some =
+    scanned_next {pair} is same some =
+        let starts : offset_of file i ≡ start_of file i = sym is.offset_is ∙ same ∙ s.here in
         record {
-          here = rw add-one;
-          kept = rw (add-one, s.kept, eq-eqb (offset_of file i) (start_of file i) (same ∙ s.here), lt-ltb 0 (length_of file i) (omega arith));
+          here = rw (add-one, is.offset_is, is.length_is);
+          kept = rw (add-one, s.kept, eq-eqb (offset_of file i) (start_of file i) starts, lt-ltb 0 (length_of file i) (omega (arith, is.length_is)));
         }
 
     -- after the last pair
@@ -86,17 +84,27 @@ module _ (file : List ℕ) where
       unfolding rules_broken
       ends_here end = rw (← last, s.kept, eq-eqb (start_of file i) (length file) (sym s.here ∙ end))
 
--- ---- 13, and none
+-- ---- past the count
 
-module _ (file : List ℕ) (counted : 2 ≤ length file) (few : count_of file ≤ max_entries) (whole : head_bytes (count_of file) ≤ length file) where
-  pub not-cut : cut_short file ≡ false
+module _ (file : List ℕ) (entries : ℕ) (is : entries ≡ count_of file) (counted : 2 ≤ length file) where
+  pub too_many : max_entries < entries → refused 12 ≡ count_answer file
   unfolding cut_short
-  not-cut = rw (le-ltb _ _ counted, le-ltb _ _ few, le-ltb _ _ whole)
+  too_many many = stop_cut file (rw (← is, le-ltb _ _ counted, lt-ltb _ _ many))
 
-  pub breaks : rules_broken file ≡ true → refused 13 ≡ count_answer file
-  unfolding count_answer file_refusal
-  breaks bad = answers (pass_false 12 not-cut (stop_true bad))
+  module _ (few : entries ≤ max_entries) where
+    pub no_pair : length file < head_bytes entries → refused 12 ≡ count_answer file
+    unfolding cut_short
+    no_pair short = stop_cut file (rw (← is, le-ltb _ _ counted, le-ltb _ _ few, lt-ltb _ _ short))
 
-  pub counts : rules_broken file ≡ false → accepted (count_of file ∷ []) ≡ count_answer file
-  unfolding count_answer file_refusal
-  counts good = answers (pass_false 12 not-cut (pass_false 13 good done))
+    module _ (whole : head_bytes entries ≤ length file) where
+      pub not-cut : cut_short file ≡ false
+      unfolding cut_short
+      not-cut = rw (← is, le-ltb _ _ counted, le-ltb _ _ few, le-ltb _ _ whole)
+
+      pub breaks : rules_broken file ≡ true → refused 13 ≡ count_answer file
+      unfolding count_answer file_refusal
+      breaks bad = answers (pass_false 12 not-cut (stop_true bad))
+
+      pub counts : rules_broken file ≡ false → accepted (entries ∷ []) ≡ count_answer file
+      unfolding count_answer file_refusal
+      counts good = rw is (answers (pass_false 12 not-cut (pass_false 13 good done)))

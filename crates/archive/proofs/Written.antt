@@ -1,5 +1,6 @@
 -- Writing: what an accepted call leaves, and that entries which have an archive are accepted.
 -- Assumes nothing.
+use Rattle.std.specs.Prelude.{Result, Ok, Err}
 use mathlib.Core.Path.{◌≡◌, refl, sym, ap, ◌∙◌}
 use mathlib.Core.Bool.{not}
 use mathlib.Core.List.{List, [], ◌∷◌, map}
@@ -10,8 +11,7 @@ use lib.Dec.{ltb, eqb}
 use lib.ListN.{length, length-map}
 use borrow.Author.Tests.{ltb-false, eqb-true, not-false, le-ltb, eq-eqb}
 use Rattle.lists.specs.Table.{flat}
-use Rattle.scheme.specs.declared.Answer.{Answer}
-use Rattle.scheme.specs.declared.Answer.TheVariants.{Value, Refused}
+use Rattle.scheme.specs.declared.refusal.Refusal.{Refusal}
 use Rattle.scheme.specs.Outcome.{first_of, answer, outcome}
 use Rattle.scheme.proofs.Laws.{first_if, told-accepted, told-refused}
 use Rattle.archive.specs.Format.{max_entries, head_bytes, archive_of, Archivable}
@@ -57,10 +57,10 @@ output_is contents sizes before e = rw e
 
 -- what it has written
 pub wrote : (contents sizes before : List ℕ) (bytes : ℕ) (after : List ℕ)
-    → WriteCall contents sizes before (Value bytes) after → Wrote contents sizes bytes after
+    → WriteCall contents sizes before (Ok bytes) after → Wrote contents sizes bytes after
 unfolding write_answer
 wrote contents sizes before bytes after call =
-    let told = told-accepted (Value bytes) _ _ call.0 refl in
+    let told = told-accepted (Ok bytes) _ _ call.0 refl in
     let h = accepted_of (length contents) sizes (length before) told.0 in
     let archive = cut_archive sizes contents h.few h.fits h.whole in
     let is : after ≡ archive_of (cut sizes contents) = call.1 ∙ output_is contents sizes before told.0 in
@@ -74,9 +74,9 @@ wrote contents sizes before bytes after call =
 -- ---- entries that have an archive
 
 -- a call that refuses nothing answers its value
-value_of : (a : Answer) (k v : ℕ) → outcome a ≡ answer k (v ∷ []) → k ≡ 0 → a ≡ Value v
-value_of (Value w) k v e none = ap Value (told-accepted (Value w) k v e refl).1
-value_of (Refused q) k v e none = absurd (let no : ⊥ = omega (arith, told-refused (Refused q) k v e refl) in no)
+value_of : (a : Result ℕ Refusal) (k v : ℕ) → outcome a ≡ answer k (v ∷ []) → k ≡ 0 → a ≡ Ok v
+value_of (Ok w) k v e none = ap Ok (told-accepted (Ok w) k v e refl).1
+value_of (Err q) k v e none = absurd (let no : ⊥ = omega (arith, told-refused (Err q) k v e refl) in no)
 
 module _ (entries : List (List ℕ)) where
   -- their archive is as long as the writer says
@@ -96,8 +96,8 @@ module _ (entries : List (List ℕ)) where
       }
 
   -- so the call answers that length and leaves their archive
-  pub wrote_all : (before : List ℕ) (a : Answer) (after : List ℕ) → Archivable entries → length before ≡ length (archive_of entries)
-      → WriteCall (flat entries) (map length entries) before a after → (a ≡ Value (length (archive_of entries))) × (after ≡ archive_of entries)
+  pub wrote_all : (before : List ℕ) (a : Result ℕ Refusal) (after : List ℕ) → Archivable entries → length before ≡ length (archive_of entries)
+      → WriteCall (flat entries) (map length entries) before a after → (a ≡ Ok (length (archive_of entries))) × (after ≡ archive_of entries)
   unfolding write_answer
   wrote_all before a after can room call =
       let none = none_refused (length before) can room in (

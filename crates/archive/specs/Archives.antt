@@ -2,11 +2,10 @@
 -- its entries, every one, and what the writer wrote is the archive of what it was lent; no second archive has the same entries. A call is what its
 -- contract says of its answer and of what it writes or hands back. proofs/Theorems.antt proves these.
 -- Assumes nothing.
-use Rattle.std.specs.Prelude.{◌≡◌, ◌↔◌, List, [], ◌∷◌, map, ℕ, ◌≤◌, ◌<◌, length, get_or}
+use Rattle.std.specs.Prelude.{◌≡◌, ◌↔◌, List, [], ◌∷◌, map, ℕ, ◌≤◌, ◌<◌, length, get_or, Ok, Result}
 use Rattle.lists.specs.Each.{Each, Byte}
 use Rattle.lists.specs.Table.{flat}
-use Rattle.scheme.specs.declared.Answer.{Answer}
-use Rattle.scheme.specs.declared.Answer.TheVariants.{Value}
+use Rattle.scheme.specs.declared.refusal.Refusal.{Refusal}
 use Rattle.scheme.specs.Outcome.{accepted, refused}
 use Rattle.archive.specs.Format.{Archivable, Archive, start_in, archive_of}
 use Rattle.archive.specs.Reading.{count_answer, place_answer, entry_length_answer, entry_of}
@@ -56,20 +55,20 @@ pub record Wrote (contents sizes : List ℕ) (bytes : ℕ) (after : List ℕ) : 
 
 abbrev pub WritesArchive : Type 0
 WritesArchive =
-    (contents sizes before : List ℕ) (bytes : ℕ) (after : List ℕ) → WriteCall contents sizes before (Value bytes) after → Wrote contents sizes bytes after
+    (contents sizes before : List ℕ) (bytes : ℕ) (after : List ℕ) → WriteCall contents sizes before (Ok bytes) after → Wrote contents sizes bytes after
 
 -- reading what was written gives the entries that were lent
 abbrev pub RoundTrip : Type 0
 RoundTrip =
-    (contents sizes before : List ℕ) (bytes : ℕ) (after : List ℕ) → WriteCall contents sizes before (Value bytes) after → Gives after (cut sizes contents)
+    (contents sizes before : List ℕ) (bytes : ℕ) (after : List ℕ) → WriteCall contents sizes before (Ok bytes) after → Gives after (cut sizes contents)
 
 -- the writer refuses no entries that have an archive, where the output has its length
 abbrev pub WritesAll : Type 0
 WritesAll =
-    (entries : List (List ℕ)) (before : List ℕ) (a : Answer) (after : List ℕ)
+    (entries : List (List ℕ)) (before : List ℕ) (a : Result ℕ Refusal) (after : List ℕ)
     → Archivable entries → length before ≡ length (archive_of entries)
     → WriteCall (flat entries) (map length entries) before a after
-    → (a ≡ Value (length (archive_of entries))) × (after ≡ archive_of entries)
+    → (a ≡ Ok (length (archive_of entries))) × (after ≡ archive_of entries)
 
 -- ---- no second archive
 

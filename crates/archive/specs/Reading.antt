@@ -1,9 +1,10 @@
 -- Reading an archive: the test of a file, and the lookup of an entry by its number.
 -- Assumes nothing.
-use Rattle.std.specs.Prelude.{Bool, true, cond, not, ◌&&◌, ◌||◌, List, [], ◌∷◌, ℕ, zero, suc, ◌+◌, ◌*◌, ltb, leb, eqb, length, get_or, take, drop}
+use Rattle.std.specs.Prelude.{Bool, true, cond, not, ◌&&◌, ◌||◌, List, [], ◌∷◌, ℕ, zero, suc, ◌+◌, ◌*◌, ltb, leb, eqb, length, get_or, take, drop, Err, Ok, Result}
+use Rattle.scheme.specs.declared.refusal.Refusal.{Refusal}
+use Rattle.scheme.specs.Refusals as refusals
 use Rattle.scheme.specs.Outcome.{Outcome, accepted, refused, number_if, first_of, answer}
-use Rattle.archive.specs.declared.reading.EntryAnswer.{EntryAnswer}
-use Rattle.archive.specs.declared.reading.EntryAnswer.TheVariants.{At, Refused}
+use Rattle.archive.specs.declared.pairs.Pair.{Pair}
 use Rattle.archive.specs.Format.{max_entries, head_bytes}
 
 -- the number in the two bytes from a place on, the low byte first
@@ -57,9 +58,9 @@ entry_refusal file number =
     ∷ [])
 
 -- the cases of the lookup's answer: the offset of the entry and its length
-abbrev pub entry_outcome : EntryAnswer → Outcome
-entry_outcome (At offset size) = accepted (offset ∷ size ∷ [])
-entry_outcome (Refused q) = refused q
+abbrev pub entry_outcome : Result Pair Refusal → Outcome
+entry_outcome (Ok place) = accepted (place.offset ∷ place.length ∷ [])
+entry_outcome (Err q) = refused (refusals.number q)
 
 unfoldable pub place_answer : List ℕ → ℕ → Outcome
 place_answer file number = answer (entry_refusal file number) (offset_of file number ∷ length_of file number ∷ [])

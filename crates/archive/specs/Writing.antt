@@ -1,7 +1,7 @@
 -- Writing an archive: the entries are lent end to end, with their lengths.
 -- Assumes nothing.
-use Rattle.std.specs.Prelude.{◌≡◌, Bool, true, cond, not, ◌&&◌, List, [], ◌∷◌, ℕ, ◌+◌, ltb, leb, eqb, length, take, drop}
-use Rattle.scheme.specs.declared.Answer.{Answer}
+use Rattle.std.specs.Prelude.{◌≡◌, Bool, true, cond, not, ◌&&◌, List, [], ◌∷◌, ℕ, ◌+◌, ltb, leb, eqb, length, take, drop, Result}
+use Rattle.scheme.specs.declared.refusal.Refusal.{Refusal}
 use Rattle.scheme.specs.Outcome.{Outcome, number_if, first_of, answer, outcome}
 use Rattle.archive.specs.Format.{max_entries, max_number, head_bytes, archive_of}
 
@@ -46,6 +46,6 @@ write_output contents sizes before =
     cond (eqb (write_refusal (length contents) sizes (length before)) 0) (archive_of (cut sizes contents)) before
 
 -- a call of the writer, as its contract has it: what it answers, and what an output that held `before` holds after it
-abbrev pub WriteCall : List ℕ → List ℕ → List ℕ → Answer → List ℕ → Type 0
+abbrev pub WriteCall : List ℕ → List ℕ → List ℕ → Result ℕ Refusal → List ℕ → Type 0
 WriteCall contents sizes before a after =
     (outcome a ≡ write_answer (length contents) sizes (length before)) × (after ≡ write_output contents sizes before)

@@ -9,7 +9,8 @@ mod pairs;
 mod reading;
 mod writing;
 
-pub use reading::{EntryAnswer, count, entry, entry_length, entry_place};
+pub use pairs::Pair;
+pub use reading::{count, entry, entry_length, entry_place};
 pub use writing::write;
 
 // The most entries of an archive.

@@ -13,9 +13,9 @@ pub(crate) fn head_bytes(i: usize) -> usize
     2 + 4 * i
 }
 
-// What the pair of an entry says.
-#[derive(Clone, Copy)]
-pub(crate) struct Pair {
+// What the pair of an entry says: where in the file the entry stands.
+#[derive(Clone, Copy, Debug, PartialEq, Eq)]
+pub struct Pair {
     pub offset: usize,
     pub length: usize,
 }

@@ -6,88 +6,62 @@ ghost use Rattle.archive.specs.Reading.{count_answer, entry_outcome, place_answe
 
 use crate::MAX_ENTRIES;
 use crate::numbers::number_at;
-use crate::pairs::{head_bytes, pair_at};
-use sharing::Answer;
-
-// The answer of a lookup: where in the file the entry stands, or the number of the first refusal that applies.
-#[derive(Clone, Copy)]
-pub enum EntryAnswer {
-    At { offset: usize, length: usize },
-    Refused(u8),
-}
+use crate::pairs::{Pair, head_bytes, pair_at};
+use sharing::Refusal;
 
 // How many entries an archive has. Refusal 12: the count or a pair is cut short, or the count is above its limit. 13: a
 // pair or the file's end breaks the rules.
-pub fn count(file: &[u8]) -> Answer
+pub fn count(file: &[u8]) -> Result<usize, Refusal>
     ensures { outcome result ≡ count_answer file.now }
 {
     if file.len() < 2 {
-        return Answer::Refused(12);
+        return Err(Refusal::ArchiveCount);
     }
     let entries = number_at(file, 0);
     if MAX_ENTRIES < entries {
-        return Answer::Refused(12);
+        return Err(Refusal::ArchiveCount);
     }
     // Where the next entry has to start.
     let mut start = head_bytes(entries);
     if file.len() < start {
-        return Answer::Refused(12);
+        return Err(Refusal::ArchiveCount);
     }
-    let mut i = 0;
-    while i < entries {
+    for i in 0..entries {
         let pair = pair_at(file, i);
-        if pair.offset != start {
-            return Answer::Refused(13);
-        }
-        if pair.length == 0 {
-            return Answer::Refused(13);
+        if pair.offset != start || pair.length == 0 {
+            return Err(Refusal::ArchiveEntries);
         }
         start = pair.offset + pair.length;
-        i += 1;
     }
     if start != file.len() {
-        return Answer::Refused(13);
+        return Err(Refusal::ArchiveEntries);
     }
-    Answer::Value(entries)
+    Ok(entries)
 }
 
 // Where the entry of this number stands. Refusals 12 and 13: those of the file. 14: no entry has this number.
-pub fn entry_place(file: &[u8], number: usize) -> EntryAnswer
+pub fn entry_place(file: &[u8], number: usize) -> Result<Pair, Refusal>
     ensures { entry_outcome result ≡ place_answer file.now number }
 {
-    let answer = count(file);
-    match answer {
-        Answer::Refused(refusal) => EntryAnswer::Refused(refusal),
-        Answer::Value(entries) => {
-            if entries <= number {
-                return EntryAnswer::Refused(14);
-            }
-            let pair = pair_at(file, number);
-            EntryAnswer::At {
-                offset: pair.offset,
-                length: pair.length,
-            }
-        }
+    let entries = count(file)?;
+    if entries <= number {
+        return Err(Refusal::EntryNumber);
     }
+    Ok(pair_at(file, number))
 }
 
 // The length of the entry of this number.
-pub fn entry_length(file: &[u8], number: usize) -> Answer
+pub fn entry_length(file: &[u8], number: usize) -> Result<usize, Refusal>
     ensures { outcome result ≡ entry_length_answer file.now number }
 {
-    let place = entry_place(file, number);
-    match place {
-        EntryAnswer::At { offset: _, length } => Answer::Value(length),
-        EntryAnswer::Refused(refusal) => Answer::Refused(refusal),
-    }
+    Ok(entry_place(file, number)?.length)
 }
 
 // The entry itself: its own part of the lent file, empty on a refusal.
 pub fn entry<'a>(file: &'a [u8], number: usize) -> &'a [u8]
     ensures { (result.now ≡ entry_of file.now number) × (result.ref_ptr ≡ moved file.entry.ref_ptr (entry_start file.now number)) }
 {
-    let place = entry_place(file, number);
-    let EntryAnswer::At { offset, length } = place else {
+    let Ok(Pair { offset, length }) = entry_place(file, number) else {
         return &file[..0];
     };
     let end = offset + length;

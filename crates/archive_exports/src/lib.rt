@@ -3,14 +3,13 @@
 #![tactic(auto)]
 
 ghost use Rattle.std.specs.Prelude.{◌≡◌};
-ghost use Rattle.scheme.specs.Outcome.{outcome};
 ghost use Rattle.exports.specs.Fields.{answer_fields, value_fields};
 ghost use Rattle.archive.specs.Reading.{count_answer, entry_outcome, place_answer};
 ghost use Rattle.archive_exports.specs.Fields.{entry_fields, place_fields, WriteFields};
 
-use archive::EntryAnswer;
+use archive::Pair;
 use exports::SharingAnswer;
-use sharing::Answer;
+use sharing::Refusal;
 
 // The answer of a lookup: where in the file the entry starts, and its length.
 #[repr(C)]
@@ -21,36 +20,23 @@ pub struct ArchiveEntryAnswer {
     pub length: u64,
 }
 
-// Of a call that answers one number.
-fn fields(answer: Answer) -> SharingAnswer
-    ensures { answer_fields result ≡ value_fields (outcome answer) }
-{
-    match answer {
-        Answer::Value(value) => SharingAnswer {
-            refusal: 0,
-            value: value as u64,
-        },
-        Answer::Refused(number) => SharingAnswer {
-            refusal: number as u64,
-            value: 0,
-        },
-    }
-}
+// A usize has no From into u64: `as` keeps the number.
+impl From<Result<Pair, Refusal>> for ArchiveEntryAnswer {
+    ghost from_gives = { λ answer a. entry_fields a ≡ place_fields (entry_outcome answer) };
 
-fn entry_fields(answer: EntryAnswer) -> ArchiveEntryAnswer
-    ensures { entry_fields result ≡ place_fields (entry_outcome answer) }
-{
-    match answer {
-        EntryAnswer::At { offset, length } => ArchiveEntryAnswer {
-            refusal: 0,
-            offset: offset as u64,
-            length: length as u64,
-        },
-        EntryAnswer::Refused(number) => ArchiveEntryAnswer {
-            refusal: number as u64,
-            offset: 0,
-            length: 0,
-        },
+    fn from(answer: Result<Pair, Refusal>) -> ArchiveEntryAnswer {
+        match answer {
+            Ok(Pair { offset, length }) => ArchiveEntryAnswer {
+                refusal: 0,
+                offset: offset as u64,
+                length: length as u64,
+            },
+            Err(refusal) => ArchiveEntryAnswer {
+                refusal: u64::from(refusal.number()),
+                offset: 0,
+                length: 0,
+            },
+        }
     }
 }
 
@@ -58,19 +44,19 @@ fn entry_fields(answer: EntryAnswer) -> ArchiveEntryAnswer
 pub extern "C" fn archive_write(contents: &[u8], lengths: &[usize], out: &mut [u8]) -> SharingAnswer
     ensures { WriteFields contents.now lengths.now out.old result out.new }
 {
-    fields(archive::write(contents, lengths, out))
+    archive::write(contents, lengths, out).into()
 }
 
 #[unsafe(no_mangle)]
 pub extern "C" fn archive_count(file: &[u8]) -> SharingAnswer
     ensures { answer_fields result ≡ value_fields (count_answer file.now) }
 {
-    fields(archive::count(file))
+    archive::count(file).into()
 }
 
 #[unsafe(no_mangle)]
 pub extern "C" fn archive_entry(file: &[u8], number: usize) -> ArchiveEntryAnswer
     ensures { entry_fields result ≡ place_fields (place_answer file.now number) }
 {
-    entry_fields(archive::entry_place(file, number))
+    archive::entry_place(file, number).into()
 }

@@ -2,7 +2,7 @@
 // text. Then it damages the file.
 #![tactic(auto)]
 
-use sharing::Answer;
+use sharing::Refusal;
 use std::io;
 
 fn main(rt: HostRuntime) -> io::Result<()> {
@@ -18,16 +18,15 @@ fn main(rt: HostRuntime) -> io::Result<()> {
 }
 
 fn written(rt: &impl Print, file: &mut [u8]) -> io::Result<()> {
-    let lengths = [4usize, 5, 1];
-    told(rt, archive::write(b"Callafter.", &lengths, file))
+    told(rt, archive::write(b"Callafter.", &[4, 5, 1], file))
 }
 
 fn shown(rt: &impl Print, file: &[u8]) -> io::Result<()> {
     told(rt, archive::count(file))?;
-    entry(rt, file, 0)?;
-    entry(rt, file, 1)?;
-    entry(rt, file, 2)?;
-    entry(rt, file, 3)
+    for number in 0..4 {
+        entry(rt, file, number)?;
+    }
+    Ok(())
 }
 
 // The second offset is one too high, then a number is asked for that no entry has, then the count is too high.
@@ -41,10 +40,10 @@ fn damaged(rt: &impl Print, file: &mut [u8; 24]) -> io::Result<()> {
 
 // Lengths that add up to the contents, and that do not: in the one case the length of the output decides.
 fn tried(rt: &impl Print, out: &mut [u8]) -> io::Result<()> {
-    told(rt, archive::write(b"ab", &[1usize, 1], out))?;
-    told(rt, archive::write(b"ab", &[1usize, 2], out))?;
+    told(rt, archive::write(b"ab", &[1, 1], out))?;
+    told(rt, archive::write(b"ab", &[1, 2], out))?;
     // If their sum wrapped, it would be 2.
-    let halves = [9223372036854775809usize, 9223372036854775809];
+    let halves = [9223372036854775809, 9223372036854775809];
     told(rt, archive::write(b"ab", &halves, out))
 }
 
@@ -55,13 +54,12 @@ fn entry(rt: &impl Print, file: &[u8], number: usize) -> io::Result<()> {
     println!(rt)
 }
 
-fn told(rt: &impl Print, answer: Answer) -> io::Result<()> {
+fn told(rt: &impl Print, answer: Result<usize, Refusal>) -> io::Result<()> {
     match answer {
-        Answer::Value(value) => said(rt, "value ", value as u64),
-        Answer::Refused(refusal) => said(rt, "refused ", refusal as u64),
+        Ok(value) => println!(rt; "value {value}"),
+        Err(refusal) => {
+            let number = refusal.number();
+            println!(rt; "refused {number}")
+        }
     }
-}
-
-fn said(rt: &impl Print, text: &str, number: u64) -> io::Result<()> {
-    println!(rt; "{text}{number}")
 }

@@ -3,7 +3,6 @@
 use mathlib.Core.Path.{◌≡◌}
 use mathlib.Core.List.{List}
 use Prim.Native.Nat.{ℕ, ◌+◌, ◌*◌, ◌≤◌, ◌<◌, min}
-use native.Mathlib.Nat.{min-le_left, min-le_right, le-min}
 use native.Mathlib.Omega.{arith}
 use lib.ListN.{get_or}
 use Rattle.gf256.specs.Lanes.{lanes}
@@ -15,5 +14,4 @@ strided-at bytes at step k h = strided_for-at lanes bytes at step k h
 
 -- a batch is no longer than 64 blocks and than what is left, and there is one while any are left
 pub batch_fits : (left many : ℕ) → many ≡ min left lanes → (many ≤ lanes) × (many ≤ left) × (0 < left → 0 < many)
-batch_fits left many e =
-    (omega (arith, min-le_right left lanes), omega (arith, min-le_left left lanes), (λ h. let one : 1 ≤ min left lanes = le-min h (omega arith) in omega arith))
+batch_fits left many e = (omega arith, omega arith, λ h. omega arith)

@@ -1,18 +1,15 @@
--- Bytes that are gathered into a slice: a part at a time, and how many places lie inside.
+-- Bytes that are gathered into a slice: a part at a time, and zeros past the end.
 -- Assumes nothing.
-use mathlib.Core.Path.{◌≡◌, refl, sym, ap, ◌∙◌}
+use mathlib.Core.Path.{◌≡◌, sym, ap, ◌∙◌}
 use mathlib.Core.List.{List, ◌++◌}
 use mathlib.Core.Logic.{inr, ⊎_elim}
-use Prim.Native.Nat.{ℕ, ◌+◌, ◌-◌, ◌*◌, ◌/◌, ◌≤◌, ◌<◌, min}
-use native.Mathlib.Nat.{zero-mul, mul-zero, add-mul, mul-le-mul_right, le_refl, min-le_left, min-le_right, le-min, div-mul-le_self, lt-div-mul-add, not-suc-le-zero}
+use Prim.Native.Nat.{ℕ, ◌+◌, ◌-◌, ◌*◌, ◌≤◌, ◌<◌}
+use native.Mathlib.Nat.{add-mul}
 use native.Mathlib.Omega.{arith}
-use lib.ListN.{length, get_or, take, drop, set, get_or-append, get_or-eq_default}
-use Rattle.lists.specs.Table.{tabulate}
-use Rattle.lists.proofs.Fill.{Fill, fill_none, fill_more}
+use lib.ListN.{length, get_or, take, drop, replicate, get_or-append, get_or-eq_default, length-replicate, get_or-replicate}
 use Rattle.lists.proofs.Parts.{mid_length, mid_before, mid_in, mid_outside}
 use Rattle.lists.proofs.Table.{tabulate_is, length-tabulate, get_or-tabulate}
 use Rattle.lists.proofs.Tests.{lt_or_le}
-use Rattle.gf256.specs.Lanes.{lanes}
 use Rattle.columns.specs.Columns.{strided_for, Inside}
 
 pub strided_for-at : (n : ℕ) (bytes : List ℕ) (at step k : ℕ) → k < n → get_or (strided_for n bytes at step) k 0 ≡ get_or bytes (at + k * step) 0
@@ -23,28 +20,11 @@ pub length-strided : (n : ℕ) (bytes : List ℕ) (at step : ℕ) → length (st
 unfolding strided_for
 length-strided n bytes at step = length-tabulate n _
 
--- four written one after another
-pub four-set : (bytes out : List ℕ) (at step : ℕ) → length out ≡ 4
-    → Fill (λ k. get_or bytes (at + k * step) 0) 4 4
-    (set (set (set (set out 0 (get_or bytes at 0)) 1 (get_or bytes (at + step) 0)) 2 (get_or bytes (at + 2 * step) 0)) 3 (get_or bytes (at + 3 * step) 0))
-four-set bytes out at step long =
-    let none : at ≡ at + 0 * step = omega arith in
-    let one : at + step ≡ at + 1 * step = omega arith in
-    fill_more
-    (fill_more
-    (fill_more (fill_more (fill_none _ 4 out long) (omega arith) (ap (λ (i : ℕ). get_or bytes i 0) none)) (omega arith) (ap (λ (i : ℕ). get_or bytes i 0) one)) (omega arith)
-    refl)
-    (omega arith)
-    refl
-
 -- ---- a part at a time: the first i of the n bytes are there
 
 pub record Taken (bytes : List ℕ) (at step n i : ℕ) (out : List ℕ) : Type 0 where
   pub long : length out ≡ n
   pub first : (k : ℕ) → k < i → get_or out k 0 ≡ get_or bytes (at + k * step) 0
-
-pub taken_none : (bytes : List ℕ) (at step n : ℕ) (out : List ℕ) → length out ≡ n → Taken bytes at step n 0 out
-taken_none bytes at step n out e = record { long = e; first = λ k h. absurd (not-suc-le-zero h) }
 
 module _ {bytes : List ℕ} {at step n i : ℕ} {out : List ℕ} (T : Taken bytes at step n i out) where
   -- entry k of the next ones
@@ -76,64 +56,13 @@ module _ {bytes : List ℕ} {at step n i : ℕ} {out : List ℕ} (T : Taken byte
   unfolding strided_for
   taken-all h = tabulate_is out n _ 0 T.long (λ k l. T.first k (omega arith))
 
--- ---- how many places lie inside
-
-module _ (size at step most : ℕ) (first : at < size) where
-  -- all, where as many steps do
-  inside_all : ((k : ℕ) → k < most → k * step ≤ size - 1 - at) → Inside size at step most most
-  inside_all all =
-      record {
-        within = le_refl most;
-        before = λ k h. omega (arith, all k h);
-        after = λ k h l. absurd (omega arith);
-      }
-
-  -- r of them, where just so many steps do
-  inside_some : (r : ℕ) → ((k : ℕ) → k < r → k * step ≤ size - 1 - at) → ((k : ℕ) → r ≤ k → size - 1 - at < k * step) → Inside size at step most (min r most)
-  inside_some r yet past =
-      record {
-        within = min-le_right r most;
-        before = λ k h. omega (arith, yet k (omega (arith, min-le_left r most)));
-        after = λ k h l.
-            ⊎_elim (λ (b : k < r).
-            let low : k < min r most = le-min b l in
-            absurd (omega arith))
-            (λ (b : r ≤ k). omega (arith, past k b))
-            (lt_or_le k r);
-      }
-
-  pub inside_63 : most ≤ lanes → step ≤ (size - 1 - at) / 63 → Inside size at step most most
-  inside_63 few small =
-      inside_all (λ k h.
-      let last : k ≤ 63 = omega arith in
-      omega (arith, mul-le-mul_right step last))
-
-  pub inside_one : size - 1 - at < step → Inside size at step most (min 1 most)
-  inside_one large =
-      inside_some 1
-      (λ k h.
-      let none : k ≡ 0 = omega arith in
-      rw none (omega (arith, zero-mul step)))
-      (λ k h. omega (arith, mul-le-mul_right step h))
-
-  pub inside_still : step ≡ 0 → Inside size at step most most
-  inside_still none = inside_all (λ k h. rw none (omega (arith, mul-zero k)))
-
-  pub inside_divided : 0 < step → Inside size at step most (min ((size - 1 - at) / step + 1) most)
-  inside_divided positive =
-      inside_some _
-      (λ k h.
-      let low : k ≤ (size - 1 - at) / step = omega arith in
-      omega (arith, mul-le-mul_right step low, div-mul-le_self (size - 1 - at) step))
-      (λ k h. omega (arith, mul-le-mul_right step h, add-mul ((size - 1 - at) / step) 1 step, lt-div-mul-add {a = size - 1 - at} positive))
-
 -- the first r are there, and zeros after them
-pub inside_then_zeros : (bytes : List ℕ) (at step n r : ℕ) (o y : List ℕ) → Inside (length bytes) at step n r → o ≡ tabulate n (λ k. 0)
+pub inside_then_zeros : (bytes : List ℕ) (at step n r : ℕ) (o y : List ℕ) → Inside (length bytes) at step n r → o ≡ replicate n 0
     → y ≡ strided_for r bytes at step → y ++ drop r o ≡ strided_for n bytes at step
 unfolding strided_for
 inside_then_zeros bytes at step n r o y I zeros is =
     let e : length y ≡ r = ap length is ∙ length-tabulate r _ in
-    let l : length o ≡ n = ap length zeros ∙ length-tabulate n _ in
+    let l : length o ≡ n = ap length zeros ∙ length-replicate {A = ℕ} n 0 in
     let room : 0 + r ≤ length o = omega (arith, I.within) in
     tabulate_is (y ++ drop r o) n _ 0
     (mid_length 0 r o y room e ∙ l)
@@ -142,6 +71,6 @@ inside_then_zeros bytes at step n r o y I zeros is =
     (λ (b : r ≤ k).
     mid_outside 0 r o y room 0 k e (inr (omega arith))
     ∙ ap (λ v. get_or v k 0) zeros
-    ∙ get_or-tabulate n _ k 0 h
+    ∙ get_or-replicate {A = ℕ} n k 0 0 h
     ∙ sym (get_or-eq_default bytes 0 (I.after k b h)))
     (lt_or_le k r))

@@ -1,15 +1,13 @@
 // 64 blocks side by side: column e holds the coefficient of degree e of one row in each of them.
 #![tactic(auto)]
 
-ghost use Rattle.std.specs.Prelude.{◌≡◌, ℕ, ◌+◌, ◌*◌, ◌≤◌, ◌<◌, min, length};
-ghost use Rattle.lists.specs.Table.{tabulate};
+ghost use Rattle.std.specs.Prelude.{◌≡◌, ℕ, ◌+◌, ◌*◌, ◌≤◌, ◌<◌, min, length, replicate};
 ghost use Rattle.gf256.specs.Lanes.{lanes};
 ghost use Rattle.interpolation.specs.RowValue.{values_of};
 ghost use Rattle.columns.specs.Columns.{strided_for, Inside, flat_column, flat_columns};
 
 use gf256::lanes::LANES;
 use interpolation::{RowValue, SIDE};
-use lists::smaller;
 
 // Bytes `step` apart from place `at` on, as many as the slice has, which are 64 in every call of this
 // library; 0 past the end. How many places lie inside is found once, so that none has to be tested.
@@ -17,11 +15,10 @@ pub fn gather_into(s: &[u8], at: usize, step: usize, out: &mut [u8])
     ensures { out.new ≡ strided_for (length out.old) s.now at step }
 {
     let inside = count_inside(s.len(), at, step, out.len());
-    if inside == LANES {
-        if out.len() == LANES {
-            fill_inside(s, at, step, out);
-            return;
-        }
+    // Apart from the others, since the compiler makes better code where it knows that there are 64.
+    if inside == LANES && out.len() == LANES {
+        strided_into(s, at, step, out);
+        return;
     }
     clear(out);
     strided_into(s, at, step, &mut out[..inside]);
@@ -37,33 +34,30 @@ fn count_inside(size: usize, at: usize, step: usize, most: usize) -> usize
         return 0;
     }
     let last = size - 1 - at;
-    if most <= LANES {
-        if step <= last / (LANES - 1) {
-            return most;
-        }
+    if most <= LANES && step <= last / (LANES - 1) {
+        return most;
     }
     // Only the first: a message of one block asks this of every coefficient.
     if last < step {
-        return smaller(1, most);
+        return most.min(1);
     }
     if step == 0 {
         return most;
     }
-    smaller(last / step + 1, most)
+    most.min(last / step + 1)
 }
 
-// The same where all places lie inside: four a turn, and the rest one by one.
+// The same where all places lie inside: four a turn, since the compiler makes better code of the inner loop where it
+// knows its length, and the last three at most. Not by `chunks_exact_mut`: of what is written through its chunks a proof
+// knows nothing.
 fn strided_into(s: &[u8], at: usize, step: usize, out: &mut [u8])
     requires { (k : ℕ) → k < length out.old → at + k * step < length s.now }
     ensures { out.new ≡ strided_for (length out.old) s.now at step }
 {
     let turns = out.len() / 4;
-    let mut turn = 0;
-    while turn < turns {
+    for turn in 0..turns {
         let k = turn * 4;
-        let end = k + 4;
-        fill_four(s, at + k * step, step, &mut out[k..end]);
-        turn += 1;
+        fill_each(s, at + k * step, step, &mut out[k..k + 4]);
     }
     let done = turns * 4;
     if done < out.len() {
@@ -71,51 +65,23 @@ fn strided_into(s: &[u8], at: usize, step: usize, out: &mut [u8])
     }
 }
 
-// The same one by one, for the last three at most.
+// The same one by one.
 fn fill_each(s: &[u8], at: usize, step: usize, out: &mut [u8])
     requires { (k : ℕ) → k < length out.old → at + k * step < length s.now }
     ensures { out.new ≡ strided_for (length out.old) s.now at step }
 {
-    let mut k = 0;
-    while k < out.len() {
+    for k in 0..out.len() {
         out[k] = s[at + k * step];
-        k += 1;
     }
 }
 
-// The same for 64 bytes: the compiler makes better code where it knows the number of turns.
-fn fill_inside(s: &[u8], at: usize, step: usize, out: &mut [u8])
-    requires { (length out.old ≡ lanes) × (at + 63 * step < length s.now) }
-    ensures { out.new ≡ strided_for (length out.old) s.now at step }
-{
-    let mut turn = 0;
-    while turn < 16 {
-        let k = turn * 4;
-        let end = k + 4;
-        fill_four(s, at + k * step, step, &mut out[k..end]);
-        turn += 1;
-    }
-}
-
-// Four bytes, written out: the compiler makes slower code of a loop over them.
-fn fill_four(s: &[u8], at: usize, step: usize, out: &mut [u8])
-    requires { (length out.old ≡ 4) × (at + 3 * step < length s.now) }
-    ensures { out.new ≡ strided_for 4 s.now at step }
-{
-    out[0] = s[at];
-    out[1] = s[at + step];
-    out[2] = s[at + 2 * step];
-    out[3] = s[at + 3 * step];
-}
-
-// Makes every byte 0.
+// Makes every byte 0. The loop is faster than `fill`, which writes the last byte by itself: gathering for a message of
+// one block took up to a third longer with it.
 fn clear(out: &mut [u8])
-    ensures { out.new ≡ tabulate (length out.old) (λ k. 0) }
+    ensures { out.new ≡ replicate (length out.old) 0 }
 {
-    let mut k = 0;
-    while k < out.len() {
-        out[k] = 0;
-        k += 1;
+    for byte in out.iter_mut() {
+        *byte = 0;
     }
 }
 
@@ -127,14 +93,12 @@ pub const FLAT: usize = SIDE * LANES;
 pub fn flat_values(columns: &[u8; FLAT], d: usize, point: u8) -> [u8; LANES]
     ensures { result ≡ values_of point (flat_columns d columns.now) }
 {
-    let top = smaller(d, SIDE);
+    let top = d.min(SIDE);
     if top == 0 {
         return RowValue::new(point).values;
     }
-    let mut e = top - 1;
-    let mut value = RowValue::starting(point, flat_column(columns, e));
-    while 0 < e {
-        e -= 1;
+    let mut value = RowValue::starting(point, flat_column(columns, top - 1));
+    for e in (0..top - 1).rev() {
         value = value.next(flat_column(columns, e));
     }
     value.values
@@ -155,16 +119,14 @@ pub fn column(columns: &[u8], e: usize) -> [u8; LANES]
     part
 }
 
-// Column e where all of it is there.
+// Column e where all of it is there. The loop is faster than `copy_from_slice`, of which the compiler makes two copies.
 fn flat_column(columns: &[u8], e: usize) -> [u8; LANES]
     requires { e * lanes + lanes ≤ length columns.now }
     ensures { result ≡ flat_column columns.now e }
 {
     let mut column = [0u8; LANES];
-    let mut k = 0;
-    while k < LANES {
+    for k in 0..LANES {
         column[k] = columns[e * LANES + k];
-        k += 1;
     }
     column
 }
@@ -173,5 +135,5 @@ fn flat_column(columns: &[u8], e: usize) -> [u8; LANES]
 pub fn batch_of(left: usize) -> usize
     ensures { result ≡ min left lanes }
 {
-    smaller(left, LANES)
+    left.min(LANES)
 }

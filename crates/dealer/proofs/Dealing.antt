@@ -1,36 +1,45 @@
 -- What the splitter answers and writes, in both forms of message: they differ in the number of blocks and in the byte right after the message. The laws
 -- are proved once, over both.
 -- Assumes nothing.
-use mathlib.Core.Path.{◌≡◌, sym, ap, ◌∙◌}
+use mathlib.Core.Path.{◌≡◌, refl, sym, ap, ◌∙◌}
 use mathlib.Core.Bool.{cond, not}
 use mathlib.Core.List.{List, [], ◌∷◌, ◌++◌}
 use mathlib.Core.Logic.{⊎_elim}
-use Prim.Native.Nat.{ℕ, ◌+◌, ◌*◌, ◌/◌, ◌≤◌, ◌<◌}
-use native.Mathlib.Nat.{mul-le-mul, mul_assoc, mul_comm, eq-zero-or-pos}
+use Prim.Native.Nat.{ℕ, ◌+◌, ◌*◌, ◌≤◌, ◌<◌}
+use native.Mathlib.Nat.{div-le_self, mul-le-mul, mul_assoc, mul_comm, eq-zero-or-pos}
 use native.Mathlib.Omega.{arith}
 use lib.Dec.{ltb, eqb}
 use lib.ListN.{length}
-use borrow.Author.Tests.{ltb-false, le-ltb, eqb-true, eq-eqb, not-false}
-use Rattle.scheme.specs.declared.Scheme.{Scheme}
-use Rattle.scheme.specs.declared.Answer.{Answer}
+use borrow.Author.Tests.{ltb-false, eqb-true, eq-eqb, not-false}
+use Rattle.scheme.specs.declared.accepted.Scheme.{Scheme}
+use Rattle.scheme.specs.declared.refusal.Refusal.{Refusal}
+use Rattle.scheme.specs.declared.forms.Form.{Form}
+use Rattle.scheme.specs.declared.forms.Form.TheVariants.{Earlier, Padded}
 use Rattle.scheme.specs.Facts.{SchemeIs}
 use Rattle.scheme.specs.Limits.{max_parties, max_block, max_message, max_blocks}
-use Rattle.scheme.specs.Outcome.{outcome, number_if, first_of, answer}
-use Rattle.scheme.specs.Check.{refusal, block_count}
-use Rattle.scheme.specs.Padding.{end_marker, padded_count}
-use Rattle.scheme.proofs.Laws.{accepted as accepted-facts, done, pass, pass_within, pass_same, numbered, kept, first_none, first_if, first-passed}
+use Rattle.scheme.specs.Refusals.{number}
+use Rattle.scheme.specs.Forms.{blocks_of_length}
+use Rattle.scheme.specs.Outcome.{outcome, accepted, refused, number_if, first_of, answer}
+use Rattle.scheme.specs.Check.{refusal}
+use Rattle.scheme.specs.Padding.{padded_count}
+use Rattle.scheme.proofs.Laws.{Way, scheme_own, answer_none, refuses, done, pass, pass_within, pass_same, numbered, kept, first_none, first_if}
 use Rattle.family.specs.Message.{padded}
 use Rattle.family.specs.Padding.{marked}
 use Rattle.family.specs.Family.{shares_of_blocks}
 use Rattle.family.proofs.Shares.{length-shares}
-use Rattle.staircase.specs.Parameters.{Parameters, AcceptedScheme, parameters_of, block, rows, blocks_of, padded_blocks_of, key_bytes, share_bytes, output_bytes}
+use Rattle.staircase.specs.Parameters.{Parameters, AcceptedScheme, parameters_of, block, rows, blocks_of, padded_blocks_of, key_bytes, share_bytes, output_bytes, point}
 use Rattle.staircase.specs.Shares.{staircase, shares, padded_shares}
+use Rattle.lists.specs.Table.{tabulate, joined}
+use Rattle.staircase.specs.Coefficients.{share_byte}
 use Rattle.staircase.proofs.Bytes.{bytewise, shares_are, padded_shares_are}
-use Rattle.staircase.proofs.Sizes.{rows_most}
-use Rattle.dealer.specs.Columns.{filled_shares}
-use Rattle.dealer.specs.Split.{split_refusal, split_answer, split_output, SplitCall}
-use Rattle.dealer.specs.SplitPadded.{split_padded_refusal, split_padded_answer, split_padded_output, SplitPaddedCall}
-use Rattle.dealer.specs.Dealing.{slice_refusals, DealCall}
+use Rattle.staircase.proofs.Sizes.{rows_most, blocks_few}
+use Rattle.rows.proofs.Scheme.{facts_of}
+use Rattle.std.specs.Prelude.{Result, Ok, Err}
+use Rattle.dealer.specs.Split.{split_refusal, split_answer, split_output}
+use Rattle.dealer.specs.SplitPadded.{split_padded_refusal, split_padded_answer, split_padded_output}
+use Rattle.dealer.specs.Forms.{blocks_in, shares_in, byte_after, SplitInCall}
+use Rattle.dealer.specs.declared.source.Source.{Source}
+use Rattle.dealer.specs.Sources.{filled_shares}
 
 -- ---- a message of so many bytes that makes N blocks
 
@@ -110,74 +119,111 @@ module _ (p : Parameters) (message keys out : List ℕ) where
       kept_long (split_padded_refusal p (length message) (length keys) (length out)) (padded_shares p message keys) out
       (λ e. blocks_long p (padded_blocks_of p (length message)) (marked (block p) message) keys ∙ sym (dealt p (padded_blocks_of p (length message)) (length message) (length keys) (length out) e).room)
 
--- ---- the code's numbers: s is what the check answers, N the blocks, and w one of n and z
+-- ---- the code's numbers, in a scheme that was accepted, of N blocks
 
-module _ (s : Scheme) (ds : List ℕ) (is : SchemeIs s s.n s.r s.z ds) (N w : ℕ) where
-  pub output_parts : w ≡ s.n → w * N * s.rows ≡ s.n * (s.rows * N)
-  output_parts e = rw e (mul_assoc s.n N s.rows ∙ ap (λ (x : ℕ). s.n * x) (mul_comm N s.rows))
+module _ (s : Scheme) (N : ℕ) where
+  -- the bytes of all shares, party by party
+  pub output_parts : s.n * N * s.rows ≡ s.n * (s.rows * N)
+  output_parts = mul_assoc s.n N s.rows ∙ ap (λ (x : ℕ). s.n * x) (mul_comm N s.rows)
 
   -- the products fit: n and z are at most 16
   module _ (few : N ≤ max_blocks) where
     b_most : s.rows ≤ max_block
-    b_most = rw is.rows_is (rows_most (parameters_of s ds) is.passed)
+    b_most = rw (scheme_own s).rows_is (rows_most (parameters_of s) (scheme_own s).passed)
 
     n_most : s.n ≤ max_parties
-    n_most = (accepted-facts s.n s.r s.z ds is.passed).sizes.parties_high
+    n_most = (facts_of s _ (scheme_own s)).sizes.parties_high
 
     z_most : s.z ≤ max_parties
-    z_most = omega (arith, (accepted-facts s.n s.r s.z ds is.passed).sizes)
+    z_most = omega (arith, (facts_of s _ (scheme_own s)).sizes)
 
-    pub keys-part : w ≡ s.z → N * w ≤ max_blocks * max_parties
-    keys-part e = rw e (mul-le-mul few z_most)
+    pub keys-part : N * s.z ≤ max_blocks * max_parties
+    keys-part = mul-le-mul few z_most
 
-    pub keys_whole : w ≡ s.z → N * w * s.rows ≤ max_blocks * max_parties * max_block
-    keys_whole e = mul-le-mul (keys-part e) b_most
+    pub keys_whole : N * s.z * s.rows ≤ max_blocks * max_parties * max_block
+    keys_whole = mul-le-mul keys-part b_most
 
-    pub output-part : w ≡ s.n → w * N ≤ max_parties * max_blocks
-    output-part e = rw e (mul-le-mul n_most few)
+    pub output-part : s.n * N ≤ max_parties * max_blocks
+    output-part = mul-le-mul n_most few
 
-    pub output_whole : w ≡ s.n → w * N * s.rows ≤ max_parties * max_blocks * max_block
-    output_whole e = mul-le-mul (output-part e) b_most
+    pub output_whole : s.n * N * s.rows ≤ max_parties * max_blocks * max_block
+    output_whole = mul-le-mul output-part b_most
 
--- ---- what the tests of the slices answer and leave, past the scheme and the message's length
+-- the blocks of a message that is not too long are few
+pub blocks-few : (form : Form) (s : Scheme) (message : ℕ) → message ≤ max_message → blocks_of_length form s.block message ≤ max_blocks
+unfolding padded_count
+blocks-few Earlier s message short = blocks_few (parameters_of s) s (scheme_own s) message _ refl short
+blocks-few Padded s message short = omega (arith, div-le_self message s.block, short)
 
-module _ (p : Parameters) (s : Scheme) (is : SchemeIs s p.n p.r p.z p.counts) (message : ℕ) (short : message ≤ max_message) (N : ℕ)
-    (bytes keys out : List ℕ) where
-  passed : first_of (refusals p N message (length keys) (length out)) ≡ first_of (slice_refusals s N (length keys) (length out))
-  passed =
-      first-passed _ _ is.passed ∙ first-passed _ _ (rw (le-ltb max_message message short)) ∙ rw (is.n_is, is.z_is, is.rows_is)
+-- what the code works out of s, which the check answered for the parameters p, of so many blocks N and so many bytes of a message; w is one of n and z
+module _ (form : Form) (p : Parameters) (s : Scheme) (is : SchemeIs s p.n p.r p.z p.counts) (message N w : ℕ)
+    (N_is : N ≡ blocks_of_length form s.block message) where
+  blocks_are : N ≡ blocks_in form p message
+  blocks_are = N_is ∙ ap (λ (m : ℕ). blocks_of_length form m message) is.block_is
 
-  loops_write : length keys ≡ key_bytes p N → (whole : List ℕ) → (length keys ≡ N * (rows p * p.z) → whole ≡ bytewise p bytes keys N) → filled_shares s p.counts bytes keys N ≡ whole
-  loops_write enough whole is_whole =
-      let own : length keys ≡ N * (rows p * p.z) = enough ∙ mul_assoc N p.z (rows p) ∙ ap (λ (x : ℕ). N * x) (mul_comm p.z (rows p)) in
-      rw (is.n_is, is.r_is, is.z_is, is.rows_is, is.block_is) (sym (is_whole own))
+  pub keys_are : w ≡ s.z → N * w * s.rows ≡ key_bytes p (blocks_in form p message)
+  keys_are e = rw (e, blocks_are, is.z_is, is.rows_is)
 
-  deals : (whole : List ℕ) → (length keys ≡ N * (rows p * p.z) → whole ≡ bytewise p bytes keys N)
-      → (a : Answer) (w : List ℕ) → DealCall s p.counts N bytes keys out a w
-      → (outcome a ≡ answer (first_of (refusals p N message (length keys) (length out))) (share_bytes p N ∷ []))
-      × (w ≡ cond (eqb (first_of (refusals p N message (length keys) (length out))) 0) whole out)
-  deals whole is_whole a w C = (
-    C.0 ∙ rw (passed, is.rows_is),
-    C.1 ∙ rw passed
-        (⊎_elim
-        (λ (e : first_of (slice_refusals s N (length keys) (length out)) ≡ 0).
-        rw (eq-eqb (first_of (slice_refusals s N (length keys) (length out))) 0 e)
-        (loops_write (dealt p N message _ _ (passed ∙ e)).enough whole is_whole))
-        (λ (h : 0 < first_of (slice_refusals s N (length keys) (length out))). sym (kept _ h) ∙ kept whole h)
-        (eq-zero-or-pos (first_of (slice_refusals s N (length keys) (length out))))),
-  )
+  pub output_is : w ≡ s.n → w * N * s.rows ≡ output_bytes p (blocks_in form p message)
+  output_is e = rw (e, blocks_are, is.n_is, is.rows_is)
 
--- so of the two forms: N is the blocks of the message, and the byte after it 0 or the marker
-module _ (p : Parameters) (s : Scheme) (is : SchemeIs s p.n p.r p.z p.counts) (message keys out : List ℕ) (short : length message ≤ max_message)
-    (N : ℕ) (a : Answer) (w : List ℕ) where
-  pub splits : N ≡ block_count s.block (length message) → DealCall s p.counts N (message ++ 0 ∷ []) keys out a w → SplitCall p message keys out a w
-  unfolding split_refusal split_answer split_output
-  splits N_is C =
-      let same : N ≡ blocks_of p (length message) = N_is ∙ ap (λ (m : ℕ). block_count m (length message)) is.block_is in
-      deals p s is (length message) short (blocks_of p (length message)) (message ++ 0 ∷ []) keys out (shares p message keys) (shares_are p is.passed message keys) a w (rw same at C)
+  pub share_is : N * s.rows ≡ share_bytes p (blocks_in form p message)
+  share_is = rw (blocks_are, is.rows_is)
 
-  pub padded-splits : N ≡ length message / s.block + 1 → DealCall s p.counts N (message ++ end_marker ∷ []) keys out a w → SplitPaddedCall p message keys out a w
-  unfolding split_padded_refusal split_padded_answer split_padded_output padded_count
-  padded-splits N_is C =
-      let same : N ≡ padded_blocks_of p (length message) = N_is ∙ ap (λ (m : ℕ). length message / m + 1) is.block_is in
-      deals p s is (length message) short (padded_blocks_of p (length message)) (message ++ end_marker ∷ []) keys out (padded_shares p message keys) (padded_shares_are p is.passed message keys) a w (rw same at C)
+-- ---- a call, in either form
+
+-- what it answers and leaves
+call : (form : Form) (p : Parameters) (message keys out : List ℕ) (a : Result ℕ Refusal) (w : List ℕ)
+    → let N : ℕ = blocks_in form p (length message) in
+    let q : ℕ = first_of (refusals p N (length message) (length keys) (length out)) in
+    outcome a ≡ answer q (share_bytes p N ∷ []) → w ≡ cond (eqb q 0) (shares_in form p message keys) out → SplitInCall form p message keys out a w
+unfolding split_refusal split_answer split_output split_padded_refusal split_padded_answer split_padded_output
+call Earlier p message keys out a w e f = (e, f)
+call Padded p message keys out a w e f = (e, f)
+
+-- the shares, byte by byte
+bytes_are : (form : Form) (p : Parameters) → AcceptedScheme p → (message keys : List ℕ)
+    → let N : ℕ = blocks_in form p (length message) in
+    length keys ≡ N * (rows p * p.z) → shares_in form p message keys ≡ bytewise p (message ++ byte_after form ∷ []) keys N
+bytes_are Earlier p good message keys = shares_are p good message keys
+bytes_are Padded p good message keys = padded_shares_are p good message keys
+
+-- the table that the loops fill, by the numbers of the scheme
+table_is : (p : Parameters) (N n z m b : ℕ) (ds bytes bytes' keys keys' : List ℕ) (q : Parameters)
+    → n ≡ p.n → z ≡ p.z → m ≡ block p → b ≡ rows p → ds ≡ p.counts → bytes ≡ bytes' → keys ≡ keys'
+    → joined n (λ a. tabulate (b * N) (share_byte m b z ds bytes keys N (point q (a + 1)))) ≡ bytewise p bytes' keys' N
+unfolding point
+table_is p N n z m b ds bytes bytes' keys keys' q e f g h i j k = rw (e, f, g, h, i, j, k)
+
+module _ (form : Form) (p : Parameters) (message keys out : List ℕ) where
+  -- it is refused
+  pub stops : (q : Refusal)
+      → let N : ℕ = blocks_in form p (length message) in
+      Way (share_bytes p N ∷ []) (refusals p N (length message) (length keys) (length out)) (refused (number q))
+      → SplitInCall form p message keys out (Err q) out
+  stops q way =
+      let r = refuses (shares_in form p message keys) way in
+      call form p message keys out (Err q) out r.0 r.1
+
+  -- or all is written that the loops write of a source
+  module _ (x : Source) (is : SchemeIs x.scheme p.n p.r p.z p.counts) (counts : x.scheme.counts.now ≡ p.counts) (of : x.message.now ≡ message)
+      (byte : x.end.byte ≡ byte_after form) (under : x.keys.now ≡ keys) where
+    filled_are : length keys ≡ key_bytes p (blocks_in form p (length message))
+        → filled_shares x (blocks_in form p (length message)) ≡ shares_in form p message keys
+    filled_are enough =
+        let N : ℕ = blocks_in form p (length message) in
+        let own : length keys ≡ N * (rows p * p.z) = enough ∙ mul_assoc N p.z (rows p) ∙ ap (λ (k : ℕ). N * k) (mul_comm p.z (rows p)) in
+        table_is p N _ _ _ _ _ _ _ _ _ _ is.n_is is.z_is is.block_is is.rows_is counts (ap (λ (m : List ℕ). m ++ x.end.byte ∷ []) of ∙ ap (λ (b : ℕ). message ++ b ∷ []) byte) under
+        ∙ sym (bytes_are form p is.passed message keys own)
+
+    pub writes : (N share : ℕ) (w : List ℕ) → N ≡ blocks_of_length form x.scheme.block (length message) → length message ≤ max_message
+        → length keys ≡ key_bytes p (blocks_in form p (length message)) → length out ≡ output_bytes p (blocks_in form p (length message))
+        → share ≡ N * x.scheme.rows → w ≡ filled_shares x N → SplitInCall form p message keys out (Ok share) w
+    writes N share w N_is short enough room share_are w_is =
+        let M : ℕ = blocks_in form p (length message) in
+        let nothing : first_of (refusals p M (length message) (length keys) (length out)) ≡ 0 = none p M _ _ _ is.passed short enough room in
+        let of_blocks : N ≡ M = blocks_are form p x.scheme is (length message) N 0 N_is in
+        let written : w ≡ shares_in form p message keys = w_is ∙ ap (filled_shares x) of_blocks ∙ filled_are enough in
+        call form p message keys out (Ok share) w
+        (ap (λ (k : ℕ). accepted (k ∷ [])) (share_are ∙ share_is form p x.scheme is (length message) N 0 N_is) ∙ sym (answer_none _ _ nothing))
+        (rw nothing written)

@@ -1,5 +1,5 @@
 mod Filled
-mod Put
+mod Rows
 mod Batches
 mod Followed
 mod Dealing

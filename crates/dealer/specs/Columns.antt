@@ -1,14 +1,11 @@
 -- What the splitter's inner functions make, on 64 blocks side by side.
 -- Assumes nothing.
 use Rattle.std.specs.Prelude.{◌≡◌, cond, List, [], ◌∷◌, ◌++◌, ◌⊎◌, ℕ, ◌+◌, ◌*◌, ◌≤◌, ◌<◌, ltb, length, get_or}
-use Rattle.lists.specs.Table.{tabulate, joined}
 use Rattle.interpolation.specs.RowValue.{values_of}
-use Rattle.scheme.specs.declared.Scheme.{Scheme}
+use Rattle.scheme.specs.declared.accepted.Scheme.{Scheme}
 use Rattle.columns.specs.Columns.{strided, flat_columns}
-use Rattle.staircase.specs.Parameters.{parameters_of, point}
-use Rattle.staircase.specs.Coefficients.{origin, key_place, share_byte}
-use Rattle.rows.specs.Sources.{RowOrigins}
-use Rattle.dealer.specs.declared.shares.Follower.{Follower}
+use Rattle.staircase.specs.Coefficients.{origin, key_place}
+use Rattle.dealer.specs.declared.follower.Follower.{Follower}
 
 -- the coefficient of degree e of row j in 64 blocks from t on: key bytes, or the message bytes at its origin, 0 past their ends
 unfoldable pub column : ℕ → ℕ → ℕ → List ℕ → List ℕ → List ℕ → ℕ → ℕ → ℕ → List ℕ
@@ -33,24 +30,7 @@ Followed last rest byte t place before after =
     (bytes : List ℕ) (m : ℕ) → length bytes ≡ last * m + rest → rest < m → place < m
     → before ≡ strided bytes (t * m + place) m → after ≡ strided (bytes ++ byte ∷ []) (t * m + place) m
 
--- `place` is that of the coefficient where this is no key: then r is its column, in a scheme s of any counts
-abbrev pub IsColumn : Scheme → ℕ → List ℕ → List ℕ → ℕ → ℕ → ℕ → List ℕ → Type 0
-IsColumn s place message keys t j e r =
-    (ds : List ℕ) → (s.z ≤ e → place ≡ origin s.block s.z ds j e) → r ≡ column s.block s.rows s.z ds message keys t j e
-
--- the places are the origins of row j: then the first d of the columns, which stand one after another, are the row's
-abbrev pub AreColumns : Scheme → List ℕ → List ℕ → List ℕ → ℕ → ℕ → ℕ → List ℕ → Type 0
-AreColumns s places message keys t j d bytes =
-    (ds : List ℕ) → RowOrigins s.block s.z ds j d places
-    → flat_columns d bytes ≡ tabulate d (column s.block s.rows s.z ds message keys t j)
-
 -- in each party's share the row's values at its point were written, `many` of them from place q on
 abbrev pub RowFilled : ℕ → ℕ → ℕ → List ℕ → ℕ → List ℕ → List ℕ → List ℕ → Type 0
 RowFilled share q many bytes d points o w =
     Filled share q many (λ a k. get_or (values_of (get_or points a 0) (flat_columns d bytes)) k 0) (length points) o w
-
--- the shares of all parties, byte by byte
-abbrev pub filled_shares : Scheme → List ℕ → List ℕ → List ℕ → ℕ → List ℕ
-filled_shares s ds message keys blocks =
-    joined s.n
-    (λ a. tabulate (s.rows * blocks) (share_byte s.block s.rows s.z ds message keys blocks (point (parameters_of s ds) (a + 1))))

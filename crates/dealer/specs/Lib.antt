@@ -1,4 +1,5 @@
 pub mod Split
 pub mod SplitPadded
+pub mod Forms
 pub mod Columns
-pub mod Dealing
+pub mod Sources

@@ -1,8 +1,8 @@
 -- The splitter: its answer, which only the scheme and the three lengths decide, and its output.
 -- Assumes nothing.
-use Rattle.std.specs.Prelude.{◌≡◌, cond, not, List, [], ◌∷◌, ℕ, ltb, eqb, length}
+use Rattle.std.specs.Prelude.{◌≡◌, cond, not, List, [], ◌∷◌, ℕ, ltb, eqb, length, Result}
 use Rattle.scheme.specs.Limits.{max_message}
-use Rattle.scheme.specs.declared.Answer.{Answer}
+use Rattle.scheme.specs.declared.refusal.Refusal.{Refusal}
 use Rattle.scheme.specs.Outcome.{Outcome, number_if, first_of, answer, outcome}
 use Rattle.scheme.specs.Check.{refusal}
 use Rattle.staircase.specs.Parameters.{Parameters, blocks_of, key_bytes, share_bytes, output_bytes}
@@ -29,6 +29,6 @@ split_output p message keys before =
     cond (eqb (split_refusal p (length message) (length keys) (length before)) 0) (shares p message keys) before
 
 -- a call of the splitter, as its contract has it: what it answers, and what an output that held `before` holds after it
-abbrev pub SplitCall : Parameters → List ℕ → List ℕ → List ℕ → Answer → List ℕ → Type 0
+abbrev pub SplitCall : Parameters → List ℕ → List ℕ → List ℕ → Result ℕ Refusal → List ℕ → Type 0
 SplitCall p message keys before a after =
     (outcome a ≡ split_answer p (length message) (length keys) (length before)) × (after ≡ split_output p message keys before)

@@ -6,24 +6,17 @@ ghost use Rattle.dealer.specs.Columns.{RowFilled};
 use columns::FLAT;
 use gf256::lanes::LANES;
 
-// Writes the first bytes, as many as there is room for: all 64 but for the last batch, and those have a
-// loop of their own, which the compiler makes faster code of.
+// Writes the first bytes, as many as there is room for: all 64 but for the last batch. The two copies are one, but the
+// compiler makes faster code of that whose length it knows.
 fn put(values: [u8; LANES], out: &mut [u8])
     requires { length out.old ≤ lanes }
     ensures { out.new ≡ take (length out.old) values }
 {
-    let mut i = 0;
     if out.len() == LANES {
-        while i < LANES {
-            out[i] = values[i];
-            i += 1;
-        }
+        out.copy_from_slice(&values);
         return;
     }
-    while i < out.len() {
-        out[i] = values[i];
-        i += 1;
-    }
+    out.copy_from_slice(&values[..out.len()]);
 }
 
 // Writes into each party's share, at place q, the first `many` bytes of the row's values at its point.
@@ -40,12 +33,10 @@ pub(crate) fn fill_parties(
     requires { (many ≤ lanes) × (q + many ≤ share) × (length out.old ≡ length points.now * share) }
     ensures { RowFilled share q many columns.now d points.now out.old out.new }
 {
-    let mut a = 0;
-    while a < points.len() {
-        let values = columns::flat_values(columns, d, points[a]);
+    for (a, point) in points.iter().enumerate() {
+        let values = columns::flat_values(columns, d, *point);
         let at = a * share + q;
         let end = at + many;
         put(values, &mut out[at..end]);
-        a += 1;
     }
 }

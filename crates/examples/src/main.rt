@@ -9,7 +9,6 @@ mod printing;
 mod schemes;
 mod shares;
 
-use gf256::InverseAnswer;
 use std::io;
 
 fn main(rt: HostRuntime) -> io::Result<()> {
@@ -36,18 +35,13 @@ fn products(rt: &impl Print) -> io::Result<()> {
 }
 
 fn print_product(rt: &impl Print, a: u8, b: u8) -> io::Result<()> {
-    print!(rt; "{a:02x} * {b:02x}")?;
-    print_hex_result(rt, gf256::mul(a, b))
+    let product = gf256::mul(a, b);
+    println!(rt; "{a:02x} * {b:02x} = {product:02x}")
 }
 
 fn print_inverse(rt: &impl Print, a: u8) -> io::Result<()> {
-    print!(rt; "inverse of {a:02x}")?;
-    let InverseAnswer::Inverse(x) = gf256::inverse(a) else {
-        return println!(rt; ": none");
+    let Some(x) = gf256::inverse(a) else {
+        return println!(rt; "inverse of {a:02x}: none");
     };
-    print_hex_result(rt, x)
-}
-
-fn print_hex_result(rt: &impl Print, made: u8) -> io::Result<()> {
-    println!(rt; " = {made:02x}")
+    println!(rt; "inverse of {a:02x} = {x:02x}")
 }

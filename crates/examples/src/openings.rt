@@ -1,5 +1,6 @@
 // Openings in document 01's plan A: what parties send, and what the opener makes of it.
 use crate::printing;
+use crate::shares::A;
 use std::io;
 
 // All three parties send.
@@ -21,11 +22,7 @@ pub(crate) fn of_two(rt: &impl Print) -> io::Result<()> {
 fn send(rt: &impl Print, party: usize, d: usize, share: [u8; 2]) -> io::Result<()> {
     printing::number(rt, "count", d)?;
     printing::number(rt, " party", party)?;
-    printing::bytes(
-        rt,
-        " sends",
-        sharing::prefix(3, 1, 1, &[3, 2], 2, d, &share),
-    )?;
+    printing::bytes(rt, " sends", sharing::prefix(A, 2, d, &share))?;
     printing::end_line(rt)
 }
 
@@ -33,7 +30,7 @@ fn send(rt: &impl Print, party: usize, d: usize, share: [u8; 2]) -> io::Result<(
 fn open(rt: &impl Print, parties: &[u8], prefixes: &[u8]) -> io::Result<()> {
     let mut out = [0u8; 2];
     printing::bytes(rt, "parties", parties)?;
-    let used = sharing::reconstruct(3, 1, 1, &[3, 2], 2, parties, prefixes, &mut out);
+    let used = sharing::reconstruct(A, 2, parties, prefixes, &mut out);
     printing::answer(rt, " used", used)?;
     printing::bytes(rt, " message", &out)?;
     printing::end_line(rt)

@@ -1,5 +1,5 @@
 // What is printed: words, each followed by numbers in decimal.
-use sharing::Answer;
+use sharing::Refusal;
 use std::io;
 
 pub(crate) fn word(rt: &impl Print, text: &str) -> io::Result<()> {
@@ -15,27 +15,29 @@ pub(crate) fn number(rt: &impl Print, text: &str, value: usize) -> io::Result<()
 }
 
 pub(crate) fn byte(rt: &impl Print, text: &str, value: u8) -> io::Result<()> {
-    number(rt, text, value as usize)
+    number(rt, text, usize::from(value))
 }
 
 pub(crate) fn bytes(rt: &impl Print, text: &str, values: &[u8]) -> io::Result<()> {
     word(rt, text)?;
-    let mut i = 0;
-    while i < values.len() {
-        byte(rt, "", values[i])?;
-        i += 1;
+    for &value in values {
+        byte(rt, "", value)?;
     }
     Ok(())
 }
 
-pub(crate) fn refused(rt: &impl Print, number: u8) -> io::Result<()> {
-    byte(rt, " refused", number)
+pub(crate) fn refused(rt: &impl Print, refusal: Refusal) -> io::Result<()> {
+    byte(rt, " refused", refusal.number())
 }
 
 // A call's answer, with a word for what it answers when it is accepted.
-pub(crate) fn answer(rt: &impl Print, text: &str, answer: Answer) -> io::Result<()> {
+pub(crate) fn answer(
+    rt: &impl Print,
+    text: &str,
+    answer: Result<usize, Refusal>,
+) -> io::Result<()> {
     match answer {
-        Answer::Value(value) => number(rt, text, value),
-        Answer::Refused(number) => refused(rt, number),
+        Ok(value) => number(rt, text, value),
+        Err(refusal) => refused(rt, refusal),
     }
 }

@@ -1,6 +1,14 @@
 // Shares in document 01's plan A: what the splitter writes.
 use crate::printing;
+use sharing::{Form, Parameters};
 use std::io;
+
+pub(crate) const A: Parameters<'static> = Parameters {
+    n: 3,
+    r: 1,
+    z: 1,
+    counts: &[3, 2],
+};
 
 // The rows k0 + m0 x + m1 x^2 and k1 + m1 x, told by their values where one of the four bytes is 1 and
 // the others are 0: k0, m0, m1 and k1 in turn. They are those of 1, x or x^2 at the points 1, 2 and 3.
@@ -41,17 +49,11 @@ fn show(rt: &impl Print, message: [u8; 2], keys: [u8; 2]) -> io::Result<()> {
 fn split(rt: &impl Print, message: &[u8], keys: &[u8], out: &mut [u8]) -> io::Result<()> {
     printing::bytes(rt, "message", message)?;
     printing::bytes(rt, " keys", keys)?;
-    let written = sharing::split(3, 1, 1, &[3, 2], message, keys, out);
+    let written = sharing::split(Form::Earlier, A, message, keys, out);
     printing::answer(rt, " written", written)
 }
 
 // The bytes from one place up to another, or all of them where there are no such places.
 pub(crate) fn part(bytes: &[u8], from: usize, to: usize) -> &[u8] {
-    if bytes.len() < to {
-        return bytes;
-    }
-    if to < from {
-        return bytes;
-    }
-    &bytes[from..to]
+    bytes.get(from..to).unwrap_or(bytes)
 }

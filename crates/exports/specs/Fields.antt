@@ -1,16 +1,14 @@
 -- The structs that the C boundary answers, field by field: the refusal's number, 0 when accepted, then the values, 0 on a refusal but for the number
 -- tried, which stands beside refusal 4 too, and the party named, which stands beside refusal 18 alone.
 -- Assumes nothing.
-use Rattle.std.specs.Prelude.{◌≡◌, cond, List, [], ◌∷◌, ℕ, ◌*◌, ◌/◌, ◌%◌, eqb, length, get_or}
-use Rattle.gf256.specs.declared.InverseAnswer.{InverseAnswer}
-use Rattle.gf256.specs.declared.InverseAnswer.TheVariants.{Inverse, NoInverse}
+use Rattle.std.specs.Prelude.{◌≡◌, cond, List, [], ◌∷◌, ℕ, ◌*◌, ◌/◌, ◌%◌, eqb, length, get_or, Option, Some, None}
 use Rattle.scheme.specs.Outcome.{Outcome}
 use Rattle.lists.specs.Table.{tabulate}
 use Rattle.interpolation.specs.Interpolation.{side}
 use Rattle.staircase.specs.Parameters.{Parameters}
 use Rattle.dealer.specs.Split.{split_answer, split_output}
 use Rattle.dealer.specs.SplitPadded.{split_padded_answer, split_padded_output}
-use Rattle.key_pool.specs.declared.Form.{Form}
+use Rattle.scheme.specs.declared.forms.Form.{Form}
 use Rattle.key_pool.specs.declared.KeyPool.{KeyPool}
 use Rattle.key_pool.specs.Pool.{pool_answer, pool_output, pool_after}
 use Rattle.reader.specs.Basis.{basis_refusal, basis_of}
@@ -32,9 +30,9 @@ abbrev pub inverse_fields : Gf256InverseAnswer → List ℕ
 inverse_fields a = a.exists ∷ a.inverse ∷ []
 
 -- 1 and the inverse, or 0 and 0 where there is none
-abbrev pub inverted_fields : InverseAnswer → List ℕ
-inverted_fields (Inverse x) = 1 ∷ x ∷ []
-inverted_fields NoInverse = 0 ∷ 0 ∷ []
+abbrev pub inverted_fields : Option ℕ → List ℕ
+inverted_fields (Some x) = 1 ∷ x ∷ []
+inverted_fields None = 0 ∷ 0 ∷ []
 
 abbrev pub scheme_fields : SharingScheme → List ℕ
 scheme_fields s = s.refusal ∷ s.block ∷ s.rows ∷ []

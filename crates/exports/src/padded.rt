@@ -5,8 +5,8 @@ ghost use Rattle.party.specs.PrefixPadded.{prefix_padded_answer};
 ghost use Rattle.reader.specs.ReconstructPadded.{padded_outcome};
 ghost use Rattle.exports.specs.Fields.{answer_fields, value_fields, padded_fields, opened_fields, SplitPaddedFields, ReconstructPaddedFields};
 
-use crate::{SharingAnswer, fields};
-use sharing::PaddedAnswer;
+use crate::SharingAnswer;
+use sharing::{Form, PaddedOpening, Parameters, Refusal};
 
 // The answer of the opener of padded messages: the prefix bytes used and the message's length.
 #[repr(C)]
@@ -28,13 +28,14 @@ pub fn sharing_split_padded(
 ) -> SharingAnswer
     ensures { SplitPaddedFields (parameters n r z counts.now) message.now keys.now out.old result out.new }
 {
-    fields(sharing::split_padded(n, r, z, counts, message, keys, out))
+    let given = Parameters { n, r, z, counts };
+    sharing::split(Form::Padded, given, message, keys, out).into()
 }
 
 pub fn sharing_split_padded_default(message: &[u8], keys: &[u8], out: &mut [u8]) -> SharingAnswer
     ensures { SplitPaddedFields default_parameters message.now keys.now out.old result out.new }
 {
-    fields(sharing::split_padded_default(message, keys, out))
+    sharing::split(Form::Padded, Parameters::default(), message, keys, out).into()
 }
 
 pub fn sharing_prefix_padded(
@@ -47,29 +48,32 @@ pub fn sharing_prefix_padded(
 ) -> SharingAnswer
     ensures { answer_fields result ≡ value_fields (prefix_padded_answer (parameters n r z counts.now) d (length share.now)) }
 {
-    fields(sharing::prefix_padded_length(n, r, z, counts, d, share))
+    let given = Parameters { n, r, z, counts };
+    sharing::prefix_padded_length(given, d, share).into()
 }
 
 pub fn sharing_prefix_padded_default(d: usize, share: &[u8]) -> SharingAnswer
     ensures { answer_fields result ≡ value_fields (prefix_padded_answer default_parameters d (length share.now)) }
 {
-    fields(sharing::prefix_padded_length_default(d, share))
+    sharing::prefix_padded_length(Parameters::default(), d, share).into()
 }
 
-fn padded_fields(answer: PaddedAnswer) -> SharingPaddedAnswer
-    ensures { padded_fields result ≡ opened_fields (padded_outcome answer) }
-{
-    match answer {
-        PaddedAnswer::Opened { used, length } => SharingPaddedAnswer {
-            refusal: 0,
-            used: used as u64,
-            length: length as u64,
-        },
-        PaddedAnswer::Refused(number) => SharingPaddedAnswer {
-            refusal: number as u64,
-            used: 0,
-            length: 0,
-        },
+impl From<Result<PaddedOpening, Refusal>> for SharingPaddedAnswer {
+    ghost from_gives = { λ answer a. padded_fields a ≡ opened_fields (padded_outcome answer) };
+
+    fn from(answer: Result<PaddedOpening, Refusal>) -> SharingPaddedAnswer {
+        match answer {
+            Ok(PaddedOpening { used, length }) => SharingPaddedAnswer {
+                refusal: 0,
+                used: used as u64,
+                length: length as u64,
+            },
+            Err(refusal) => SharingPaddedAnswer {
+                refusal: u64::from(refusal.number()),
+                used: 0,
+                length: 0,
+            },
+        }
     }
 }
 
@@ -84,7 +88,8 @@ pub fn sharing_reconstruct_padded(
 ) -> SharingPaddedAnswer
     ensures { ReconstructPaddedFields (parameters n r z counts.now) parties.now prefixes.now out.old result out.new }
 {
-    padded_fields(sharing::reconstruct_padded(n, r, z, counts, parties, prefixes, out))
+    let given = Parameters { n, r, z, counts };
+    sharing::reconstruct_padded(given, parties, prefixes, out).into()
 }
 
 pub fn sharing_reconstruct_padded_default(
@@ -94,5 +99,5 @@ pub fn sharing_reconstruct_padded_default(
 ) -> SharingPaddedAnswer
     ensures { ReconstructPaddedFields default_parameters parties.now prefixes.now out.old result out.new }
 {
-    padded_fields(sharing::reconstruct_padded_default(parties, prefixes, out))
+    sharing::reconstruct_padded(Parameters::default(), parties, prefixes, out).into()
 }

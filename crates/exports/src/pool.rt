@@ -1,11 +1,11 @@
 // The C boundary of the splits that take their keys from a pool (document 02, f). The record is lent by a pointer, and comes
 // first.
 ghost use Rattle.staircase.specs.Parameters.{parameters, default_parameters};
-ghost use Rattle.key_pool.specs.declared.Form.TheVariants.{Earlier, Padded};
+ghost use Rattle.scheme.specs.declared.forms.Form.TheVariants.{Earlier, Padded};
 ghost use Rattle.exports.specs.Fields.{PoolSplitFields};
 
-use crate::{SharingAnswer, fields};
-use sharing::KeyPool;
+use crate::SharingAnswer;
+use sharing::{Form, KeyPool, Parameters};
 
 pub fn sharing_split_from_pool(
     pool: &mut KeyPool,
@@ -19,7 +19,8 @@ pub fn sharing_split_from_pool(
 ) -> SharingAnswer
     ensures { PoolSplitFields Earlier (parameters n r z counts.now) message.now bytes.now pool.old out.old result out.new pool.new }
 {
-    fields(sharing::split_from_pool(pool, n, r, z, counts, message, bytes, out))
+    let given = Parameters { n, r, z, counts };
+    sharing::split_from_pool(pool, Form::Earlier, given, message, bytes, out).into()
 }
 
 pub fn sharing_split_from_pool_default(
@@ -30,7 +31,8 @@ pub fn sharing_split_from_pool_default(
 ) -> SharingAnswer
     ensures { PoolSplitFields Earlier default_parameters message.now bytes.now pool.old out.old result out.new pool.new }
 {
-    fields(sharing::split_from_pool_default(pool, message, bytes, out))
+    let default = Parameters::default();
+    sharing::split_from_pool(pool, Form::Earlier, default, message, bytes, out).into()
 }
 
 pub fn sharing_split_padded_from_pool(
@@ -45,7 +47,8 @@ pub fn sharing_split_padded_from_pool(
 ) -> SharingAnswer
     ensures { PoolSplitFields Padded (parameters n r z counts.now) message.now bytes.now pool.old out.old result out.new pool.new }
 {
-    fields(sharing::split_padded_from_pool(pool, n, r, z, counts, message, bytes, out))
+    let given = Parameters { n, r, z, counts };
+    sharing::split_from_pool(pool, Form::Padded, given, message, bytes, out).into()
 }
 
 pub fn sharing_split_padded_from_pool_default(
@@ -56,5 +59,6 @@ pub fn sharing_split_padded_from_pool_default(
 ) -> SharingAnswer
     ensures { PoolSplitFields Padded default_parameters message.now bytes.now pool.old out.old result out.new pool.new }
 {
-    fields(sharing::split_padded_from_pool_default(pool, message, bytes, out))
+    let default = Parameters::default();
+    sharing::split_from_pool(pool, Form::Padded, default, message, bytes, out).into()
 }

@@ -2,7 +2,8 @@
 ghost use Rattle.staircase.specs.Parameters.{parameters, default_parameters};
 ghost use Rattle.exports.specs.Fields.{RangeFields};
 
-use crate::{SharingAnswer, fields};
+use crate::SharingAnswer;
+use sharing::Parameters;
 
 pub fn sharing_reconstruct_range(
     n: u8,
@@ -18,18 +19,17 @@ pub fn sharing_reconstruct_range(
 ) -> SharingAnswer
     ensures { RangeFields (parameters n r z counts.now) message_length start range_length parties.now prefixes.now out.old result out.new }
 {
-    fields(sharing::reconstruct_range(
-        n,
-        r,
-        z,
-        counts,
+    let given = Parameters { n, r, z, counts };
+    sharing::reconstruct_range(
+        given,
         message_length,
         start,
         range_length,
         parties,
         prefixes,
         out,
-    ))
+    )
+    .into()
 }
 
 pub fn sharing_reconstruct_range_default(
@@ -42,12 +42,15 @@ pub fn sharing_reconstruct_range_default(
 ) -> SharingAnswer
     ensures { RangeFields default_parameters message_length start range_length parties.now prefixes.now out.old result out.new }
 {
-    fields(sharing::reconstruct_range_default(
+    let given = Parameters::default();
+    sharing::reconstruct_range(
+        given,
         message_length,
         start,
         range_length,
         parties,
         prefixes,
         out,
-    ))
+    )
+    .into()
 }

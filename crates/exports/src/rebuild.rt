@@ -4,7 +4,7 @@ ghost use Rattle.staircase.specs.Parameters.{parameters, default_parameters};
 ghost use Rattle.reader.specs.Rebuild.{rebuild_outcome};
 ghost use Rattle.exports.specs.Fields.{rebuild_fields, rebuilt_fields, RebuildFields};
 
-use sharing::RebuildAnswer;
+use sharing::{Parameters, RebuildRefusal};
 
 // In how many bytes the held copy differs; the party named stands beside refusal 18.
 #[repr(C)]
@@ -28,7 +28,8 @@ pub fn sharing_rebuild(
 ) -> SharingRebuildAnswer
     ensures { RebuildFields (parameters n r z counts.now) parties.now shares.now party held.now out.old result out.new }
 {
-    rebuild_fields(sharing::rebuild(n, r, z, counts, parties, shares, party, held, out))
+    let given = Parameters { n, r, z, counts };
+    sharing::rebuild(given, parties, shares, party, held, out).into()
 }
 
 pub fn sharing_rebuild_default(
@@ -40,27 +41,30 @@ pub fn sharing_rebuild_default(
 ) -> SharingRebuildAnswer
     ensures { RebuildFields default_parameters parties.now shares.now party held.now out.old result out.new }
 {
-    rebuild_fields(sharing::rebuild_default(parties, shares, party, held, out))
+    sharing::rebuild(Parameters::default(), parties, shares, party, held, out).into()
 }
 
-fn rebuild_fields(answer: RebuildAnswer) -> SharingRebuildAnswer
-    ensures { rebuild_fields result ≡ rebuilt_fields (rebuild_outcome answer) }
-{
-    match answer {
-        RebuildAnswer::Rebuilt(differing) => SharingRebuildAnswer {
-            refusal: 0,
-            differing: differing as u64,
-            party: 0,
-        },
-        RebuildAnswer::Disagreeing(party) => SharingRebuildAnswer {
-            refusal: 18,
-            differing: 0,
-            party: party as u64,
-        },
-        RebuildAnswer::Refused(number) => SharingRebuildAnswer {
-            refusal: number as u64,
-            differing: 0,
-            party: 0,
-        },
+impl From<Result<usize, RebuildRefusal>> for SharingRebuildAnswer {
+    ghost from_gives = { λ answer a. rebuild_fields a ≡ rebuilt_fields (rebuild_outcome answer) };
+
+    fn from(answer: Result<usize, RebuildRefusal>) -> SharingRebuildAnswer {
+        match answer {
+            Ok(differing) => SharingRebuildAnswer {
+                refusal: 0,
+                differing: differing as u64,
+                party: 0,
+            },
+            // The number that C knows it by; of the other calls none has it.
+            Err(RebuildRefusal::Disagreeing { party }) => SharingRebuildAnswer {
+                refusal: 18,
+                differing: 0,
+                party: u64::from(party),
+            },
+            Err(RebuildRefusal::Refused(refusal)) => SharingRebuildAnswer {
+                refusal: u64::from(refusal.number()),
+                differing: 0,
+                party: 0,
+            },
+        }
     }
 }

@@ -4,7 +4,8 @@ ghost use Rattle.scheme.specs.Limits.{default_n, default_r, default_z, default_c
 ghost use Rattle.scheme.specs.Tried.{tried_outcome, checked_tried};
 ghost use Rattle.exports.specs.Fields.{tried_scheme_fields, checked_tried_fields};
 
-use scheme::TriedAnswer;
+use crate::SharingScheme;
+use scheme::{Parameters, TriedAnswer};
 
 // The answer of the check, and how many multiples were tried, which stands beside a refusal too.
 #[repr(C)]
@@ -19,30 +20,26 @@ pub struct SharingTriedScheme {
 pub fn sharing_check_tried(n: u8, r: u8, z: u8, counts: &[u8]) -> SharingTriedScheme
     ensures { tried_scheme_fields result ≡ checked_tried_fields (checked_tried n r z counts.now) }
 {
-    tried_fields(scheme::check_tried(n, r, z, counts))
+    let given = Parameters { n, r, z, counts };
+    scheme::check_tried(given).into()
 }
 
 pub fn sharing_check_tried_default() -> SharingTriedScheme
     ensures { tried_scheme_fields result ≡ checked_tried_fields (checked_tried default_n default_r default_z default_counts) }
 {
-    tried_fields(scheme::check_tried_default())
+    scheme::check_tried(Parameters::default()).into()
 }
 
-fn tried_fields(answer: TriedAnswer) -> SharingTriedScheme
-    ensures { tried_scheme_fields result ≡ checked_tried_fields (tried_outcome answer) }
-{
-    match answer {
-        TriedAnswer::Accepted(s, tried) => SharingTriedScheme {
-            refusal: 0,
-            block: s.block as u64,
-            rows: s.rows as u64,
-            tried: tried as u64,
-        },
-        TriedAnswer::Refused(number, tried) => SharingTriedScheme {
-            refusal: number as u64,
-            block: 0,
-            rows: 0,
-            tried: tried as u64,
-        },
+impl From<TriedAnswer<'_>> for SharingTriedScheme {
+    ghost from_gives = { λ answer s. tried_scheme_fields s ≡ checked_tried_fields (tried_outcome answer) };
+
+    fn from(answer: TriedAnswer<'_>) -> SharingTriedScheme {
+        let scheme = SharingScheme::from(answer.answer);
+        SharingTriedScheme {
+            refusal: scheme.refusal,
+            block: scheme.block,
+            rows: scheme.rows,
+            tried: answer.tried as u64,
+        }
     }
 }

@@ -1,6 +1,6 @@
 // The exports of the splits that take their keys from a pool. The record is lent by a pointer, and comes first.
 ghost use Rattle.staircase.specs.Parameters.{parameters, default_parameters};
-ghost use Rattle.key_pool.specs.declared.Form.TheVariants.{Earlier, Padded};
+ghost use Rattle.scheme.specs.declared.forms.Form.TheVariants.{Earlier, Padded};
 ghost use Rattle.exports.specs.Fields.{PoolSplitFields};
 
 use exports::SharingAnswer;

@@ -10,8 +10,7 @@ use native.Mathlib.Nat.{le_of_suc-le-suc, le_step, le_refl, not-suc-le-zero, eq-
 use lib.Dec.{T, ltb, eqb, eqb→eq, ltb→lt, lit<}
 use lib.ListN.{get_or}
 use borrow.Author.Tests.{eqb-true, eqb-false}
-use Rattle.gf256.specs.declared.InverseAnswer.{InverseAnswer}
-use Rattle.gf256.specs.declared.InverseAnswer.TheVariants.{Inverse, NoInverse}
+use Rattle.std.specs.Prelude.{Option, Some, None}
 use Rattle.gf256.specs.Byte.{◌⊕◌, product, cut, reduce, ◌⊗◌, inverse_below, inverse}
 use Rattle.lists.proofs.Tests.{both_left, both_right}
 use Rattle.lists.proofs.Computed.{at}
@@ -20,14 +19,14 @@ use Rattle.gf256.proofs.Ring.{⊗_comm, ⊗_assoc, ⊗-zero, zero-⊗, one_⊗}
 -- ---- the search finds an inverse where there is one
 
 -- found below n: an answered inverse has the product 1, and where none is answered no number below n has it
-abbrev Found : ℕ → ℕ → InverseAnswer → Type 0
-Found n a (Inverse x) = (x < n) × (a ⊗ x ≡ 1)
-Found n a NoInverse = (x : ℕ) → x < n → a ⊗ x ≢ 1
+abbrev Found : ℕ → ℕ → Option ℕ → Type 0
+Found n a (Some x) = (x < n) × (a ⊗ x ≡ 1)
+Found n a None = (x : ℕ) → x < n → a ⊗ x ≢ 1
 
-one_more : (n a : ℕ) (t : Bool) (rest : InverseAnswer) → eqb (a ⊗ n) 1 ≡ t → Found n a rest → Found (suc n) a (cond t (Inverse n) rest)
+one_more : (n a : ℕ) (t : Bool) (rest : Option ℕ) → eqb (a ⊗ n) 1 ≡ t → Found n a rest → Found (suc n) a (cond t (Some n) rest)
 one_more n a true rest e h = (le_refl (suc n), eqb-true (a ⊗ n) 1 e)
-one_more n a false (Inverse x) e h = (le_step h.0, h.1)
-one_more n a false NoInverse e h =
+one_more n a false (Some x) e h = (le_step h.0, h.1)
+one_more n a false None e h =
     λ x l. ⊎_elim (λ (q : x ≡ n). λ f. eqb-false (a ⊗ n) 1 e (ap (◌⊗◌ a) (sym q) ∙ f)) (h x) (eq-or-lt_of_le (le_of_suc-le-suc l))
 
 searched : (n a : ℕ) → Found n a (inverse_below n a)
@@ -96,30 +95,30 @@ cancel_by a i b c one hb hc e = sym (undo b hb) ∙ ap (◌⊗◌ i) e ∙ undo 
 pub ⊗_cancel : (a b c : ℕ) → a ≢ 0 → a < 256 → b < 256 → c < 256 → a ⊗ b ≡ a ⊗ c → b ≡ c
 ⊗_cancel a b c n h = cancel_by a (get_or inverses a 0) b c (entry_right a n h).1
 
-pub ⊗-inverse : (a x : ℕ) → inverse a ≡ Inverse x → (x < 256) × (a ⊗ x ≡ 1)
+pub ⊗-inverse : (a x : ℕ) → inverse a ≡ Some x → (x < 256) × (a ⊗ x ≡ 1)
 ⊗-inverse a x e = rw e at (found-answer a)
 
-pub inverse_only : (a x : ℕ) → a < 256 → x < 256 → a ⊗ x ≡ 1 → inverse a ≡ Inverse x
+pub inverse_only : (a x : ℕ) → a < 256 → x < 256 → a ⊗ x ≡ 1 → inverse a ≡ Some x
 inverse_only a x h hx e = only (inverse a) (found-answer a)
   where
-    only : (answer : InverseAnswer) → Found 256 a answer → answer ≡ Inverse x
-    only (Inverse y) r = ap Inverse (cancel_by a x y x e r.0 hx (r.1 ∙ sym e))
-    only NoInverse r = absurd (r x hx e)
+    only : (answer : Option ℕ) → Found 256 a answer → answer ≡ Some x
+    only (Some y) r = ap Some (cancel_by a x y x e r.0 hx (r.1 ∙ sym e))
+    only None r = absurd (r x hx e)
 
 -- each entry of the table but that of 0 is the inverse
-pub entry : (a : ℕ) → a ≢ 0 → a < 256 → inverse a ≡ Inverse (get_or inverses a 0)
+pub entry : (a : ℕ) → a ≢ 0 → a < 256 → inverse a ≡ Some (get_or inverses a 0)
 entry a n h =
     let r = entry_right a n h in
     inverse_only a (get_or inverses a 0) h r.0 r.1
 
-pub inverse-zero : inverse 0 ≡ NoInverse
+pub inverse-zero : inverse 0 ≡ None
 inverse-zero = none (inverse 0) (found-answer 0)
   where
-    none : (answer : InverseAnswer) → Found 256 0 answer → answer ≡ NoInverse
-    none (Inverse y) r = absurd (eqb-false 0 1 refl (sym (zero-⊗ y) ∙ r.1))
-    none NoInverse r = refl
+    none : (answer : Option ℕ) → Found 256 0 answer → answer ≡ None
+    none (Some y) r = absurd (eqb-false 0 1 refl (sym (zero-⊗ y) ∙ r.1))
+    none None r = refl
 
-pub no_inverse : (a : ℕ) → a < 256 → inverse a ≡ NoInverse → a ≡ 0
+pub no_inverse : (a : ℕ) → a < 256 → inverse a ≡ None → a ≡ 0
 no_inverse zero h e = refl
 no_inverse (suc a) h e =
     let r = entry_right (suc a) (suc-ne-zero a) h in

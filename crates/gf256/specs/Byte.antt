@@ -1,10 +1,8 @@
 -- Byte arithmetic, FIPS 197 section 4. A number stands for a polynomial over {0, 1}: its binary digit of place i is the coefficient of x^i.
 -- All definitions are total on the natural numbers; a byte is a number below 256.
 -- Assumes nothing.
-use Rattle.std.specs.Prelude.{cond, ℕ, zero, suc, ◌+◌, ◌*◌, ◌/◌, ◌%◌, eqb}
+use Rattle.std.specs.Prelude.{cond, ℕ, zero, suc, ◌+◌, ◌*◌, ◌/◌, ◌%◌, eqb, Option, Some, None}
 use Rattle.std.specs.Int.Bits.{bit_xor}
-use Rattle.gf256.specs.declared.InverseAnswer.{InverseAnswer}
-use Rattle.gf256.specs.declared.InverseAnswer.TheVariants.{Inverse, NoInverse}
 
 infixl 65 ◌⊕◌
 infixl 70 ◌⊗◌
@@ -44,14 +42,14 @@ power a zero = 1
 power a (suc n) = a ⊗ power a n
 
 -- the largest number below n whose product with a is 1, or that there is none
-unfoldable pub inverse_below : ℕ → ℕ → InverseAnswer
-inverse_below zero a = NoInverse
+unfoldable pub inverse_below : ℕ → ℕ → Option ℕ
+inverse_below zero a = None
 inverse_below (suc n) a =
-    let rest : InverseAnswer = inverse_below n a in
-    cond (eqb (a ⊗ n) 1) (Inverse n) rest
+    let rest : Option ℕ = inverse_below n a in
+    cond (eqb (a ⊗ n) 1) (Some n) rest
 
 -- the inverse of a byte, found by trial; 0 has none
-unfoldable pub inverse : ℕ → InverseAnswer
+unfoldable pub inverse : ℕ → Option ℕ
 inverse a = inverse_below 256 a
 
 -- the product of n squares, of b², b⁴, b⁸ and so on

@@ -1,5 +1,6 @@
 // Sixty-four bytes side by side. The loops have no branch and no index that depends on a byte, and
-// the compiler turns them into vector instructions.
+// the compiler turns them into vector instructions. `map` and `zip` over the arrays were tried: of those it
+// makes none, and they take over a hundred times as long.
 ghost use Rattle.std.specs.Prelude.{◌≡◌, ◌%◌};
 ghost use Rattle.gf256.specs.Lanes.{sums, scaled};
 
@@ -12,10 +13,8 @@ pub fn sum_each(x: [u8; LANES], y: [u8; LANES]) -> [u8; LANES]
     ensures { result ≡ sums x y }
 {
     let mut r = [0u8; LANES];
-    let mut i = 0;
-    while i < LANES {
+    for i in 0..LANES {
         r[i] = x[i] ^ y[i];
-        i += 1;
     }
     r
 }
@@ -25,16 +24,16 @@ pub fn double_each(x: [u8; LANES]) -> [u8; LANES]
     ensures { result ≡ scaled 2 x }
 {
     let mut r = [0u8; LANES];
-    let mut i = 0;
-    while i < LANES {
+    for i in 0..LANES {
         r[i] = double(x[i]);
-        i += 1;
     }
     r
 }
 
 // Each byte times `by`, which is public: its bits alone decide the branches. The bytes are doubled up to
-// the lowest bit that is set, so that no sum is made with zeros.
+// the lowest bit that is set, so that no sum is made with zeros. The loops here count no index: they end
+// with the highest bit, where a `for` over eight bits would go on. An array that a call answers is named
+// before it is laid in `p` or `sum`, since the check does not cover the call of a `p = f(p)`.
 pub fn scale_each(x: [u8; LANES], by: u8) -> [u8; LANES]
     ensures { result ≡ scaled by x }
 {
@@ -44,9 +43,9 @@ pub fn scale_each(x: [u8; LANES], by: u8) -> [u8; LANES]
     let mut p = x;
     let mut left = by;
     while left % 2 == 0 {
-        let q = double_each(p);
-        p = q;
-        left = left / 2;
+        let doubled = double_each(p);
+        p = doubled;
+        left /= 2;
     }
     scale_odd(p, left)
 }
@@ -66,7 +65,7 @@ fn scale_odd(x: [u8; LANES], by: u8) -> [u8; LANES]
             let s = sum_each(sum, p);
             sum = s;
         }
-        left = left / 2;
+        left /= 2;
     }
     sum
 }

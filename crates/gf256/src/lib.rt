@@ -8,13 +8,6 @@ ghost use Rattle.gf256.specs.Byte.{◌⊕◌, ◌⊗◌, power};
 pub mod lanes;
 mod tables;
 
-// What is answered where an inverse is asked for: the inverse, or that there is none.
-#[derive(Clone, Copy)]
-pub enum InverseAnswer {
-    Inverse(u8),
-    NoInverse,
-}
-
 // The sum of two bytes, and their difference.
 pub fn add(a: u8, b: u8) -> u8
     ensures { result ≡ a ⊕ b }
@@ -26,16 +19,13 @@ pub fn add(a: u8, b: u8) -> u8
 pub fn mul(a: u8, b: u8) -> u8
     ensures { result ≡ a ⊗ b }
 {
-    if a == 0 {
-        return 0;
-    }
-    if b == 0 {
+    if a == 0 || b == 0 {
         return 0;
     }
     power_of_three(logarithm(a) + logarithm(b))
 }
 
-// The product of two bytes, by shifting.
+// The product of two bytes, by shifting. The loop counts no index: it ends with the highest bit of `b`.
 pub fn mul_by_shifting(a: u8, b: u8) -> u8
     ensures { result ≡ a ⊗ b }
 {
@@ -44,22 +34,22 @@ pub fn mul_by_shifting(a: u8, b: u8) -> u8
     let mut left = b;
     while left != 0 {
         if left % 2 == 1 {
-            sum = sum ^ x;
+            sum ^= x;
         }
         x = double(x);
-        left = left / 2;
+        left /= 2;
     }
     sum
 }
 
 // The inverse of a byte; 0 has none (document 02, g), and its entry of the table is not read.
-pub fn inverse(a: u8) -> InverseAnswer
+pub fn inverse(a: u8) -> Option<u8>
     ensures { result ≡ byte.inverse a }
 {
-    if 0 < a {
-        return InverseAnswer::Inverse(tables::INVERSES[a as usize]);
+    if a == 0 {
+        return None;
     }
-    InverseAnswer::NoInverse
+    Some(tables::INVERSES[usize::from(a)])
 }
 
 // A byte times 2. No branch: a byte of 128 or more loses its highest bit, and what is left of the
@@ -82,5 +72,5 @@ fn power_of_three(i: usize) -> u8
 fn logarithm(a: u8) -> usize
     ensures { (result < 255) × (0 < a → power 3 result ≡ a) }
 {
-    tables::LOGARITHMS[a as usize] as usize
+    usize::from(tables::LOGARITHMS[usize::from(a)])
 }

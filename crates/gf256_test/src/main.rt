@@ -13,12 +13,9 @@ fn main(rt: HostRuntime) -> io::Result<()> {
         counts::different_products(),
     )?;
     print_sum(&rt, 0x57, 0x83)?;
-    print_product(&rt, 0x57, 0x02)?;
-    print_product(&rt, 0x57, 0x04)?;
-    print_product(&rt, 0x57, 0x08)?;
-    print_product(&rt, 0x57, 0x10)?;
-    print_product(&rt, 0x57, 0x13)?;
-    print_product(&rt, 0x57, 0x83)?;
+    for b in [0x02, 0x04, 0x08, 0x10, 0x13, 0x83] {
+        print_product(&rt, 0x57, b)?;
+    }
     print_count(
         &rt,
         "bytes that give 1 times their inverse: ",
@@ -37,20 +34,16 @@ fn main(rt: HostRuntime) -> io::Result<()> {
     )
 }
 
-fn print_count(rt: &impl Print, what: &str, count: u64) -> io::Result<()> {
+fn print_count(rt: &impl Print, what: &str, count: usize) -> io::Result<()> {
     println!(rt; "{what}{count}")
 }
 
 fn print_sum(rt: &impl Print, a: u8, b: u8) -> io::Result<()> {
-    print!(rt; "{a:02x} + ")?;
-    print_result(rt, b, gf256::add(a, b))
+    let sum = gf256::add(a, b);
+    println!(rt; "{a:02x} + {b:02x} = {sum:02x}")
 }
 
 fn print_product(rt: &impl Print, a: u8, b: u8) -> io::Result<()> {
-    print!(rt; "{a:02x} * ")?;
-    print_result(rt, b, gf256::mul(a, b))
-}
-
-fn print_result(rt: &impl Print, b: u8, made: u8) -> io::Result<()> {
-    println!(rt; "{b:02x} = {made:02x}")
+    let product = gf256::mul(a, b);
+    println!(rt; "{a:02x} * {b:02x} = {product:02x}")
 }

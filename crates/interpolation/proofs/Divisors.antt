@@ -1,4 +1,4 @@
--- What interpolation divides by is not 0 where no point stands twice: `divisors`. It is cited for the arm of `basis_row` in which there is no inverse
+-- What interpolation divides by is not 0 where no point stands twice: `divisors`. It is cited where `row` (src/points.rt) unwraps an inverse
 -- (`divided_invertible` in proofs/Row.antt), where the definition's quotient is used (proofs/Through.antt), and for accepted parties (in sharing).
 -- Assumes nothing.
 use mathlib.Core.Path.{sym}

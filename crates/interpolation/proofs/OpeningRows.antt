@@ -2,19 +2,20 @@
 -- weights of a value, from such a table.
 -- Assumes nothing.
 use mathlib.Core.Path.{◌≡◌, refl, sym, ap, ap₂, ◌∙◌}
-use mathlib.Core.List.{List, [], ◌∷◌}
+use mathlib.Core.List.{List, [], ◌∷◌, ◌++◌}
 use mathlib.Core.Logic.{⊎_elim}
 use Prim.Native.Nat.{ℕ, zero, suc, ◌+◌, ◌-◌, ◌≤◌, ◌<◌, min}
 use native.Mathlib.Numerals.{add-one}
 use native.Mathlib.Omega.{arith}
-use lib.ListN.{length, get_or, set, take, drop, replicate, length-replicate}
+use lib.ListN.{length, get_or, set, take, drop, replicate, length-replicate, length-append}
 use lib.Seq.{get_or-take, drop-cons, drop-length}
 use borrow.Author.Tests.{lt-ltb, le-ltb}
 use Rattle.lists.specs.Table.{tabulate}
-use Rattle.lists.proofs.Each.{replicate-at}
+use Rattle.lists.proofs.Each.{replicate-at, get_or_beyond}
+use Rattle.std.proofs.lemmas.List.{drop-replicate, length-take-le}
 use Rattle.lists.proofs.Known.{Known, known-all, Written, written_more, written_all}
 use Rattle.lists.proofs.Parts.{take_beyond}
-use Rattle.lists.proofs.Table.{length-tabulate, get_or-tabulate, tabulate-same}
+use Rattle.lists.proofs.Table.{length-tabulate, get_or-tabulate, tabulate-same, tabulate_is}
 use Rattle.lists.proofs.Tests.{lt_or_le}
 use Rattle.gf256.specs.Byte.{◌⊕◌, ◌⊗◌, power}
 use Rattle.gf256.proofs.Laws.{⊕-zero, ⊗_comm}
@@ -35,6 +36,14 @@ taken_none n d cs =
 
 pub taken-zero : (n d : ℕ) (cs : List ℕ) → d ≡ 0 → replicate n 0 ≡ lowest n (take d cs)
 taken-zero n d cs z = known-all (taken_none n d cs) (λ k l j. omega arith)
+
+-- the first d coefficients are copied over zeros
+pub taken_over : (n d : ℕ) (cs : List ℕ) → d ≤ n → d ≤ length cs → take d cs ++ drop d (replicate {A = ℕ} n 0) ≡ lowest n (take d cs)
+taken_over n d cs h l =
+    rw (drop-replicate {X = ℕ} d n 0)
+    (tabulate_is (take d cs ++ replicate (n - d) 0) n (λ e. get_or (take d cs) e 0) 0
+    (length-append (take d cs) (replicate {A = ℕ} (n - d) 0) ∙ omega (arith, length-take-le d cs l, length-replicate {A = ℕ} (n - d) 0))
+    (λ e b. get_or_beyond (take d cs) (n - d) e 0))
 
 taken-same : (n d : ℕ) (cs ds : List ℕ) → ((e : ℕ) → get_or cs e 0 ≡ get_or ds e 0) → lowest n (take d cs) ≡ lowest n (take d ds)
 taken-same n d cs ds same =

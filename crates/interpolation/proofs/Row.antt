@@ -17,7 +17,7 @@ use Rattle.lists.proofs.Each.{distinct-true, replicate-at}
 use Rattle.lists.proofs.Known.{Known, known_more}
 use Rattle.lists.proofs.Table.{get_or-tabulate, tabulate-same}
 use Rattle.lists.proofs.Without.{length_without}
-use Rattle.gf256.specs.declared.InverseAnswer.TheVariants.{Inverse, NoInverse}
+use Rattle.std.specs.Prelude.{Some, None}
 use Rattle.gf256.specs.Byte.{◌⊕◌, ◌⊗◌, inverse}
 use Rattle.gf256.specs.Lanes.{lanes, scaled}
 use Rattle.gf256.proofs.Laws.{⊕-back, ⊗_comm, ⊗-inverse}
@@ -93,13 +93,13 @@ module _ (ps : List ℕ) (i : ℕ) (inside : i < length ps) (short : length ps �
         rw none at o.at_own
 
     -- so it has an inverse
-    pub divided_invertible : inverse value ≢ NoInverse
+    pub divided_invertible : inverse value ≢ None
     divided_invertible =
         let D : Divisors ps = divisors ps bytes (distinct-true ps d) in
         rw whole (D.invertible (eval (get_or ps i 0) (others ps i)) (D.of_row i inside))
 
     -- and the quotient times that is the row
-    pub divided_row : (factor : ℕ) → inverse value ≡ Inverse factor → lowest side (scaled factor quotient) ≡ tabulate side (weight ps i)
+    pub divided_row : (factor : ℕ) → inverse value ≡ Some factor → lowest side (scaled factor quotient) ≡ tabulate side (weight ps i)
     unfolding scaled
     divided_row factor found =
         let one : eval (get_or ps i 0) (others ps i) ⊗ factor ≡ 1 = rw whole at (⊗-inverse value factor found).1 in

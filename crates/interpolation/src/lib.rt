@@ -1,21 +1,19 @@
 // Interpolation over bytes: the running value of a row, the Lagrange basis, and the weights of an opening.
 #![tactic(auto)]
 
-ghost use Rattle.std.specs.Prelude.{◌≡◌, ◌≢◌, true, ℕ, ◌+◌, ◌<◌, ◌≤◌, length, get_or, drop};
-ghost use Rattle.lists.specs.Each as each;
+ghost use Rattle.std.specs.Prelude.{◌≡◌};
 ghost use Rattle.lists.specs.Table.{tabulate};
 ghost use Rattle.gf256.specs.Lanes.{lanes};
-ghost use Rattle.gf256.specs.declared.InverseAnswer.TheVariants.{NoInverse};
-ghost use Rattle.interpolation.specs.Polynomial as polynomial;
-ghost use Rattle.interpolation.specs.Interpolation.{side, weight, basis_table};
+ghost use Rattle.interpolation.specs.Interpolation.{basis_table};
 ghost use Rattle.interpolation.specs.RowValue.{next_each};
 
-use gf256::InverseAnswer;
 use gf256::lanes::LANES;
 
 mod opening;
+mod points;
 
 pub use opening::{opening_weights, value_weights};
+use points::Points;
 
 // Document 01's running row value, of one row in 64 consecutive blocks: its values at a point, over
 // the coefficients taken so far.
@@ -52,6 +50,8 @@ impl RowValue {
     {
         let values = self.values;
         let scaled = gf256::lanes::scale_each(values, self.point);
+        // An array that a call answers has a name first: the check does not cover it laid in a field or a
+        // variable that is there already.
         let sums = gf256::lanes::sum_each(coefficient, scaled);
         self.values = sums;
         self
@@ -67,138 +67,8 @@ pub const SIDE: usize = 16;
 pub fn basis(points: &[u8]) -> [[u8; SIDE]; SIDE]
     ensures { result ≡ basis_table points.now }
 {
-    if SIDE < points.len() {
+    let Some(few) = Points::of(points) else {
         return [[0u8; SIDE]; SIDE];
-    }
-    basis_by(points, vanishing(points))
-}
-
-// The same where they are at most 16 and the product over them is at hand.
-pub(crate) fn basis_by(points: &[u8], product: [u8; SIDE + 1]) -> [[u8; SIDE]; SIDE]
-    requires { (length points.now ≤ side) × (product ≡ polynomial.lowest (side + 1) (polynomial.vanishing points.now)) }
-    ensures { result ≡ basis_table points.now }
-{
-    let mut table = [[0u8; SIDE]; SIDE];
-    if !distinct(points) {
-        return table;
-    }
-    let mut i = 0;
-    while i < points.len() {
-        table[i] = basis_row(product, points, i);
-        i += 1;
-    }
-    table
-}
-
-// The product of x + p over all points p: one coefficient more than points, and zeros above.
-pub(crate) fn vanishing(points: &[u8]) -> [u8; SIDE + 1]
-    requires { length points.now ≤ side }
-    ensures { result ≡ polynomial.lowest (side + 1) (polynomial.vanishing points.now) }
-{
-    let mut product = [0u8; SIDE + 1];
-    product[0] = 1;
-    let mut j = points.len();
-    while 0 < j {
-        j -= 1;
-        let longer = times_linear(product, points.len() - j, points[j]);
-        product = longer;
-    }
-    product
-}
-
-// A polynomial times x + point, which makes it one of this degree. The coefficients above are zeros and
-// stay so: for speed they are passed over. The products of bytes, here and in the rows, are by shifting,
-// since those by tables copy the tables at each use, and have the point as the second factor: they go
-// through its bits, and points are small.
-fn times_linear(poly: [u8; SIDE + 1], degree: usize, point: u8) -> [u8; SIDE + 1]
-    requires { (degree ≤ side) × ((e : ℕ) → degree ≤ e → get_or poly e 0 ≡ 0) }
-    ensures { result ≡ polynomial.lowest (side + 1) (polynomial.linear point 0 poly) }
-{
-    let mut longer = [0u8; SIDE + 1];
-    let mut lower: u8 = 0;
-    let mut e = 0;
-    while e <= degree {
-        longer[e] = lower ^ gf256::mul_by_shifting(poly[e], point);
-        lower = poly[e];
-        e += 1;
-    }
-    longer
-}
-
-// Row i: the product over all points divided by x + point i, which leaves the product over the others,
-// and that divided by its value at point i. The division goes from the highest coefficient down, and the
-// value is found on the way. For speed the quotient stands at the front of 64 bytes, which are scaled
-// side by side.
-fn basis_row(product: [u8; SIDE + 1], points: &[u8], i: usize) -> [u8; SIDE]
-    requires i_in_bounds { (i < length points.now) × (length points.now ≤ side) × (each.distinct points.now ≡ true) }
-    requires product_value { product ≡ polynomial.lowest (side + 1) (polynomial.vanishing points.now) }
-    ensures { result ≡ tabulate side (weight points.now i) }
-{
-    let point = points[i];
-    let mut quotient = [0u8; LANES];
-    let mut above: u8 = 0;
-    let mut value: u8 = 0;
-    let mut e = points.len();
-    while 0 < e {
-        above = product[e] ^ gf256::mul_by_shifting(above, point);
-        e -= 1;
-        quotient[e] = above;
-        value = above ^ gf256::mul_by_shifting(value, point);
-    }
-    // The points are distinct, so the value is not 0.
-    let InverseAnswer::Inverse(factor) = gf256::inverse(value) else {
-        return not_reached(InverseAnswer::NoInverse);
     };
-    lowest(gf256::lanes::scale_each(quotient, factor))
-}
-
-// Stands where the code never comes. It is handed that there is no inverse, and requires that there is one: nobody can
-// show that, so whoever calls it has to prove that the place is not reached. Nothing comes back.
-fn not_reached(there: InverseAnswer) -> [u8; SIDE]
-    requires { there ≢ NoInverse }
-    ensures { there ≢ NoInverse }
-{
-    [0u8; SIDE]
-}
-
-// The first 16 of 64 bytes: a row of coefficients.
-fn lowest(bytes: [u8; LANES]) -> [u8; SIDE]
-    ensures { result ≡ polynomial.lowest side bytes }
-{
-    let mut row = [0u8; SIDE];
-    let mut e = 0;
-    while e < SIDE {
-        row[e] = bytes[e];
-        e += 1;
-    }
-    row
-}
-
-// Whether no point stands twice.
-fn distinct(points: &[u8]) -> bool
-    ensures { result ≡ each.distinct points.now }
-{
-    let mut i = 0;
-    while i < points.len() {
-        if stands_again(points, i) {
-            return false;
-        }
-        i += 1;
-    }
-    true
-}
-
-// Whether point i stands again after its place.
-fn stands_again(points: &[u8], i: usize) -> bool
-    requires { i < length points.now }
-    ensures { result ≡ each.occurs (get_or points.now i 0) (drop (i + 1) points.now) }
-{
-    let mut j = i + 1;
-    while j < points.len() {
-        if points[i] == points[j] {
-            return true;
-        }
-        j += 1;
-    }
-    false
+    few.basis()
 }

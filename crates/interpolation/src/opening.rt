@@ -1,14 +1,14 @@
 // The weights of an opening. Where a row has more coefficients than parties are read, those of the higher
 // degrees are known, and each of the others is a sum of the parties' values and of the known coefficients,
 // each times its weight.
-ghost use Rattle.std.specs.Prelude.{◌≡◌, ◌∷◌, ◌-◌, ◌≤◌, get_or, take};
+ghost use Rattle.std.specs.Prelude.{◌≡◌, ℕ, suc};
 ghost use Rattle.lists.specs.Table.{tabulate};
 ghost use Rattle.interpolation.specs.Polynomial as polynomial;
 ghost use Rattle.interpolation.specs.Interpolation.{side};
-ghost use Rattle.interpolation.specs.Opening.{opening_table, value_weight};
+ghost use Rattle.interpolation.specs.Opening.{remainder, opening_table, value_weight};
 
 use crate::SIDE;
-use lists::smaller;
+use crate::points::Points;
 
 // These weights for a row of `top` coefficients that is read at d points: in row i below d the basis, and
 // from d up the weights of the known coefficient of degree i, which are what a division of x to the power i
@@ -17,62 +17,55 @@ use lists::smaller;
 pub fn opening_weights(points: &[u8], top: usize) -> [[u8; SIDE]; SIDE]
     ensures { result ≡ opening_table points.now top }
 {
-    let d = points.len();
     // Every row is a point's, and `basis` has none for so many.
-    if SIDE < d {
+    let Some(read) = Points::of(points) else {
         return [[0u8; SIDE]; SIDE];
-    }
-    let product = crate::vanishing(points);
-    let mut table = crate::basis_by(points, product);
-    let end = smaller(top, SIDE);
+    };
+    let d = read.all.len();
+    let mut table = read.basis();
+    let end = top.min(SIDE);
     if end <= d {
         return table;
     }
-    table[d] = first_remainder(product, d);
-    let mut i = d + 1;
-    while i < end {
+    table[d] = read.first_remainder();
+    for i in d + 1..end {
         let last = table[i - 1];
-        table[i] = next_remainder(product, last, d);
-        i += 1;
+        table[i] = read.next_remainder(last);
     }
     table
 }
 
-// What a division of x to the power d by the product leaves: its coefficients below d, since the one of
-// degree d is 1.
-fn first_remainder(product: [u8; SIDE + 1], d: usize) -> [u8; SIDE]
-    requires { d ≤ side }
-    ensures { result ≡ polynomial.lowest side (take d product) }
-{
-    let mut row = [0u8; SIDE];
-    let mut e = 0;
-    while e < d {
-        row[e] = product[e];
-        e += 1;
+impl Points<'_> {
+    // What a division of x to the power d by the product leaves: its coefficients below d, since the one of
+    // degree d is 1.
+    fn first_remainder(&self) -> [u8; SIDE]
+        ensures { result ≡ polynomial.lowest side (remainder self.now.all.now 0) }
+    {
+        let d = self.all.len();
+        let mut row = [0u8; SIDE];
+        row[..d].copy_from_slice(&self.product[..d]);
+        row
     }
-    row
-}
 
-// What a division of the next power leaves: x times the last remainder, with the multiple of the product
-// added that takes its highest coefficient off. By shifting, as in the basis, since the tables would be
-// copied at each use.
-fn next_remainder(product: [u8; SIDE + 1], last: [u8; SIDE], d: usize) -> [u8; SIDE]
-    requires { d ≤ side }
-    ensures { result ≡ polynomial.lowest side (take d (polynomial.plus (0 ∷ last) (polynomial.scale (get_or last (d - 1) 0) product))) }
-{
-    let mut row = [0u8; SIDE];
-    if d == 0 {
-        return row;
+    // What a division of the next power leaves: x times the last remainder, with the multiple of the product
+    // added that takes its highest coefficient off. By shifting, as in the basis, since the tables would be
+    // copied at each use.
+    fn next_remainder(&self, last: [u8; SIDE]) -> [u8; SIDE]
+        ensures { (k : ℕ) → last ≡ polynomial.lowest side (remainder self.now.all.now k) → result ≡ polynomial.lowest side (remainder self.now.all.now (suc k)) }
+    {
+        let d = self.all.len();
+        let mut row = [0u8; SIDE];
+        if d == 0 {
+            return row;
+        }
+        let highest = last[d - 1];
+        let mut lower: u8 = 0;
+        for e in 0..d {
+            row[e] = lower ^ gf256::mul_by_shifting(self.product[e], highest);
+            lower = last[e];
+        }
+        row
     }
-    let highest = last[d - 1];
-    let mut lower: u8 = 0;
-    let mut e = 0;
-    while e < d {
-        row[e] = lower ^ gf256::mul_by_shifting(product[e], highest);
-        lower = last[e];
-        e += 1;
-    }
-    row
 }
 
 // The weights of a row's value at x, from those of an opening at d points: what a party's value or a known
@@ -83,15 +76,13 @@ pub fn value_weights(weights: &[[u8; SIDE]; SIDE], d: usize, x: u8) -> [u8; SIDE
 {
     let mut chosen = [0u8; SIDE];
     let mut power: u8 = 1;
-    let mut i = 0;
-    while i < SIDE {
+    for i in 0..SIDE {
         let mut value = value_below(weights[i], d, x);
         if d <= i {
-            value = value ^ power;
+            value ^= power;
         }
         chosen[i] = value;
         power = gf256::mul_by_shifting(power, x);
-        i += 1;
     }
     chosen
 }
@@ -101,9 +92,7 @@ fn value_below(coefficients: [u8; SIDE], d: usize, x: u8) -> u8
     ensures { result ≡ polynomial.eval x (polynomial.lowest d coefficients) }
 {
     let mut value: u8 = 0;
-    let mut e = smaller(d, SIDE);
-    while 0 < e {
-        e -= 1;
+    for e in (0..d.min(SIDE)).rev() {
         value = coefficients[e] ^ gf256::mul_by_shifting(value, x);
     }
     value

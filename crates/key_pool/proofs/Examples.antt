@@ -12,7 +12,7 @@ use Rattle.scheme.specs.Check.{falls, parties_refused, thresholds_refused, count
 use Rattle.scheme.specs.Padding.{padded_count}
 use Rattle.staircase.specs.Parameters.{parameters, scheme_a}
 use Rattle.staircase.specs.Shares.{shares, padded_shares}
-use Rattle.key_pool.specs.declared.Form.TheVariants.{Earlier, Padded}
+use Rattle.scheme.specs.declared.forms.Form.TheVariants.{Earlier, Padded}
 use Rattle.key_pool.specs.declared.KeyPool.{KeyPool}
 use Rattle.key_pool.specs.Pool.{pool_refused, pool_refusal, pool_answer, pool_output, pool_after}
 

@@ -2,11 +2,11 @@
 -- Assumes nothing.
 use mathlib.Core.Path.{◌≡◌, refl}
 use mathlib.Core.Bool.{Bool, true, false, cond, ◌&&◌, ◌||◌}
-use Prim.Native.Nat.{ℕ, ◌+◌, ◌-◌, ◌≤◌, ◌<◌}
+use Prim.Native.Nat.{ℕ, ◌+◌, ◌-◌, ◌≤◌}
 use native.Mathlib.Nat.{add-zero}
 use native.Mathlib.Omega.{arith}
 use lib.Dec.{ltb, leb}
-use borrow.Author.Tests.{lt-ltb, le-ltb, ltb-false, eq-eqb, ne_eqb, eqb-true, not-false, le-leb}
+use borrow.Author.Tests.{ltb-false, eqb-true, not-false, le-leb}
 use Rattle.lists.proofs.Tests.{neither}
 use Rattle.key_pool.specs.declared.KeyPool.{KeyPool}
 use Rattle.key_pool.specs.Pool.{pool_refused, moved_by, taken}
@@ -24,20 +24,6 @@ room pool bytes need e =
     let inside : pool.position ≤ pool.length = ltb-false _ _ left.0 in
     let enough : need ≤ pool.length - pool.position = ltb-false _ _ left.1 in
     record { same = eqb-true _ _ (not-false _ first.0); inside = omega arith }
-
--- the ways to the test's answer
-module _ (pool : KeyPool) (bytes need : ℕ) where
-  pub of_another_length : (pool.length ≡ bytes → ⊥) → true ≡ pool_refused pool bytes need
-  unfolding pool_refused
-  of_another_length ne = simp (ne_eqb _ _ ne)
-
-  pub past_the_end : pool.length ≡ bytes → pool.length < pool.position → true ≡ pool_refused pool bytes need
-  unfolding pool_refused
-  past_the_end e h = simp (eq-eqb _ _ e, lt-ltb _ _ h)
-
-  pub by_what_is_left : pool.length ≡ bytes → pool.position ≤ pool.length → ltb (pool.length - pool.position) need ≡ pool_refused pool bytes need
-  unfolding pool_refused
-  by_what_is_left e h = simp (eq-eqb _ _ e, le-ltb _ _ h)
 
 -- none is taken
 kept_as : (pool : KeyPool) (t : Bool) → cond t (moved_by pool 0) pool ≡ pool

@@ -1,23 +1,26 @@
 -- Runs on one pool: the accounting of its bytes, and that no byte is used twice.
 -- Assumes nothing.
 use mathlib.Core.Path.{◌≡◌, refl, sym, ap, ◌∙◌}
-use mathlib.Core.Bool.{Bool, true, false, cond}
+use mathlib.Core.Bool.{Bool, true, false}
 use mathlib.Core.List.{List, [], ◌∷◌, map}
+use mathlib.Core.Logic.{◌⊎◌, inl, inr}
 use Prim.Native.Nat.{ℕ, ◌+◌, ◌≤◌}
 use native.Mathlib.Nat.{add-zero, zero-add, add_assoc}
 use native.Mathlib.Omega.{arith}
-use lib.Dec.{eqb}
 use lib.ListN.{length}
-use borrow.Author.Tests.{eq-eqb}
+use borrow.Author.Tests.{eq-eqb, ne_eqb}
 use Rattle.lists.specs.Each.{Each}
 use Rattle.lists.proofs.Each.{each_imp}
-use Rattle.scheme.specs.declared.Answer.{Answer}
-use Rattle.scheme.specs.declared.Answer.TheVariants.{Value, Refused}
-use Rattle.scheme.specs.Outcome.{outcome, accepted, refused, answer}
-use Rattle.scheme.proofs.Laws.{told-accepted, told-refused, kept}
+use Rattle.std.specs.Prelude.{Result, Ok, Err}
+use Rattle.scheme.specs.declared.refusal.Refusal.{Refusal}
+use Rattle.scheme.specs.declared.refusal.Refusal.TheVariants.{Parties, AbsentOrColluding, Counts, BlockLength, MessageLength, OutputLength, Pool}
+use Rattle.scheme.specs.Refusals.{number}
+use Rattle.scheme.specs.Outcome.{outcome, refused, number_if, first_of, answer}
+use Rattle.scheme.specs.Check.{refusal}
+use Rattle.scheme.proofs.Laws.{number_between, told-accepted, told-refused, kept}
 use Rattle.staircase.specs.Parameters.{share_bytes}
 use Rattle.key_pool.specs.declared.KeyPool.{KeyPool}
-use Rattle.key_pool.specs.Forms.{blocks_in}
+use Rattle.dealer.specs.Forms.{blocks_in}
 use Rattle.key_pool.specs.Pool.{pool_refusal, pool_answer, pool_after, pool_output, moved_by, took_if}
 use Rattle.key_pool.specs.Run.{Call, needs, Step, IsAccepted, Promised, Run, RunExists, loaded, took, total, Accounting, UsedBytesFree, Takes, UsedOnce}
 use Rattle.key_pool.proofs.WaysOut.{passed}
@@ -29,32 +32,32 @@ abbrev pub refusal_of : Call → ℕ → KeyPool → ℕ
 refusal_of c size found = pool_refusal c.form c.scheme (length c.message) size found (length c.before)
 
 -- what it answered
-abbrev Told : Call → ℕ → KeyPool → Answer → Type 0
+abbrev Told : Call → ℕ → KeyPool → Result ℕ Refusal → Type 0
 Told c size found a = outcome a ≡ pool_answer c.form c.scheme (length c.message) size found (length c.before)
 
 -- by its answer: no refusal applies, or one does
-pub told_none : (c : Call) (size : ℕ) (found : KeyPool) (a : Answer) → Told c size found a → IsAccepted a → refusal_of c size found ≡ 0
+pub told_none : (c : Call) (size : ℕ) (found : KeyPool) (a : Result ℕ Refusal) → Told c size found a → IsAccepted a → refusal_of c size found ≡ 0
 unfolding pool_answer
-told_none c size found (Value share) e ok = (told-accepted (Value share) _ _ e refl).0
-told_none c size found (Refused q) e ok = absurd ok
+told_none c size found (Ok share) e ok = (told-accepted (Ok share) _ _ e refl).0
+told_none c size found (Err q) e ok = absurd ok
 
-pub none_told : (c : Call) (size : ℕ) (found : KeyPool) (a : Answer) → Told c size found a → refusal_of c size found ≡ 0 → IsAccepted a
+pub none_told : (c : Call) (size : ℕ) (found : KeyPool) (a : Result ℕ Refusal) → Told c size found a → refusal_of c size found ≡ 0 → IsAccepted a
 unfolding pool_answer
-none_told c size found (Value share) e none = tt
-none_told c size found (Refused q) e none = omega (arith, told-refused (Refused q) (refusal_of c size found) _ e refl)
+none_told c size found (Ok share) e none = tt
+none_told c size found (Err q) e none = omega (arith, told-refused (Err q) (refusal_of c size found) _ e refl)
 
 -- and the record moved by what it took
-moved_by_lem : (c : Call) (size : ℕ) (found : KeyPool) (a : Answer) → Told c size found a
+moved_by_lem : (c : Call) (size : ℕ) (found : KeyPool) (a : Result ℕ Refusal) → Told c size found a
     → pool_after c.form c.scheme (length c.message) size found (length c.before) ≡ moved_by found (took_if a (needs c))
 unfolding pool_answer pool_after
-moved_by_lem c size found (Value share) e = rw (eq-eqb (refusal_of c size found) 0 (told-accepted (Value share) _ _ e refl).0)
-moved_by_lem c size found (Refused q) e = sym (kept _ (told-refused (Refused q) (refusal_of c size found) _ e refl)) ∙ rw (add-zero found.position)
+moved_by_lem c size found (Ok share) e = rw (eq-eqb (refusal_of c size found) 0 (told-accepted (Ok share) _ _ e refl).0)
+moved_by_lem c size found (Err q) e = sym (kept _ (told-refused (Err q) (refusal_of c size found) _ e refl)) ∙ rw (add-zero found.position)
 
 -- which were there
-within_by : (c : Call) (size : ℕ) (found : KeyPool) (a : Answer) → Told c size found a → found.length ≡ size → found.position ≤ size
+within_by : (c : Call) (size : ℕ) (found : KeyPool) (a : Result ℕ Refusal) → Told c size found a → found.length ≡ size → found.position ≤ size
     → found.position + took_if a (needs c) ≤ size
-within_by c size found (Value share) e l h = omega (arith, l, (passed c.form c.scheme _ size found _ (told_none c size found (Value share) e tt)).room.inside)
-within_by c size found (Refused q) e l h = rw (add-zero found.position) h
+within_by c size found (Ok share) e l h = omega (arith, l, (passed c.form c.scheme _ size found _ (told_none c size found (Ok share) e tt)).room.inside)
+within_by c size found (Err q) e l h = rw (add-zero found.position) h
 
 module _ (bytes : List ℕ) (s : Step) (P : Promised bytes s) where
   pub moved_on : s.next ≡ moved_by s.found (took s)
@@ -65,9 +68,46 @@ module _ (bytes : List ℕ) (s : Step) (P : Promised bytes s) where
 
 -- ---- whatever is called, there is a run
 
-told : (t : Bool) (v k : ℕ) → outcome (cond t (Value v) (Refused k)) ≡ cond t (accepted (v ∷ [])) (refused k)
-told true v k = refl
-told false v k = refl
+-- a number that is 0 or a refusal's: that of the first refusal that applies is one
+abbrev Answerable : ℕ → Type 0
+Answerable k = (k ≡ 0) ⊎ ((q : Refusal) × (number q ≡ k))
+
+first_answerable : (k : ℕ) (qs : List ℕ) → Answerable k → Answerable (first_of qs) → Answerable (first_of (k ∷ qs))
+unfolding first_of
+first_answerable k qs (inl none) later = rw (eq-eqb k 0 none) later
+first_answerable k qs (inr (q, is)) later =
+    let some : k ≡ 0 → ⊥ = λ none. omega (arith, number_between q) in
+    rw (ne_eqb k 0 some) (inr (q, is))
+
+if_answerable : (q : Refusal) (t : Bool) (qs : List ℕ) → Answerable (first_of qs) → Answerable (first_of (number_if (number q) t ∷ qs))
+if_answerable q true qs later = first_answerable _ qs (inr (q, refl)) later
+if_answerable q false qs later = first_answerable _ qs (inl refl) later
+
+none_answerable : Answerable (first_of [])
+unfolding first_of
+none_answerable = inl refl
+
+scheme_answerable : (n r z : ℕ) (ds : List ℕ) → Answerable (refusal n r z ds)
+unfolding refusal
+scheme_answerable n r z ds = if_answerable Parties _ _ (if_answerable AbsentOrColluding _ _ (if_answerable Counts _ _ (if_answerable BlockLength _ _ none_answerable)))
+
+answerable : (c : Call) (size : ℕ) (found : KeyPool) → Answerable (refusal_of c size found)
+unfolding pool_refusal
+answerable c size found =
+    first_answerable _ _ (scheme_answerable c.scheme.n c.scheme.r c.scheme.z c.scheme.counts)
+    (if_answerable MessageLength _ _ (if_answerable Pool _ _ (if_answerable OutputLength _ _ none_answerable)))
+
+-- by it these bytes of a share are answered, or the refusal
+answer_of : (k share : ℕ) → Answerable k → Result ℕ Refusal
+answer_of k share (inl none) = Ok share
+answer_of k share (inr (q, is)) = Err q
+
+told : (k share : ℕ) (a : Answerable k) → outcome (answer_of k share a) ≡ answer k (share ∷ [])
+unfolding answer_of answer
+told k share (inl none) = rw (eq-eqb k 0 none) refl
+told k share (inr (q, is)) =
+    let some : k ≡ 0 → ⊥ = λ none. omega (arith, number_between q) in
+    rw (ne_eqb k 0 some) (ap refused is)
 
 -- what a call comes to
 made : List ℕ → KeyPool → Call → Step
@@ -75,14 +115,14 @@ made bytes start c =
     record {
       call = c;
       found = start;
-      answer = cond (eqb (refusal_of c (length bytes) start) 0) (Value (share_bytes c.scheme (blocks_in c.form c.scheme (length c.message)))) (Refused (refusal_of c (length bytes) start));
+      answer = answer_of (refusal_of c (length bytes) start) (share_bytes c.scheme (blocks_in c.form c.scheme (length c.message))) (answerable c (length bytes) start);
       after = pool_output c.form c.scheme c.message bytes start c.before;
       next = pool_after c.form c.scheme (length c.message) (length bytes) start (length c.before);
     }
 
 made_so : (bytes : List ℕ) (start : KeyPool) (c : Call) → ((made bytes start c).found ≡ start) × ((made bytes start c).call ≡ c) × Promised bytes (made bytes start c)
-unfolding made pool_answer answer
-made_so bytes start c = (refl, refl, record { answered = told (eqb (refusal_of c (length bytes) start) 0) _ _; wrote = refl; moved = refl })
+unfolding made pool_answer
+made_so bytes start c = (refl, refl, record { answered = told _ _ (answerable c (length bytes) start); wrote = refl; moved = refl })
 
 pub run_exists : RunExists
 run_exists bytes start [] = ([], start, refl, refl)
@@ -112,9 +152,9 @@ ends bytes start (s ∷ ss) end (same, P, R) l h =
     let rest = ends bytes s.next ss end R long inside in
     (rest.0 ∙ ap (λ (x : ℕ). x + total (map took ss)) place ∙ add_assoc start.position (took s) (total (map took ss)), rest.1, rest.2)
 
-none_taken : (a : Answer) (need : ℕ) → (IsAccepted a → ⊥) → took_if a need ≡ 0
-none_taken (Value share) need refuses = absurd (refuses tt)
-none_taken (Refused q) need refuses = refl
+none_taken : (a : Result ℕ Refusal) (need : ℕ) → (IsAccepted a → ⊥) → took_if a need ≡ 0
+none_taken (Ok share) need refuses = absurd (refuses tt)
+none_taken (Err q) need refuses = refl
 
 left_alone : (bytes : List ℕ) (start : KeyPool) (ss : List Step) (end : KeyPool) → Run bytes start ss end → Each (λ (s : Step). (IsAccepted s.answer → ⊥) → s.next ≡ s.found) ss
 left_alone bytes start [] end R = tt

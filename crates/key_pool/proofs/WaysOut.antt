@@ -4,31 +4,28 @@ use mathlib.Core.Path.{◌≡◌, refl, sym, ap, ◌∙◌}
 use mathlib.Core.Bool.{Bool, false, cond, not}
 use mathlib.Core.List.{List, [], ◌∷◌}
 use mathlib.Core.Logic.{⊎_elim}
-use Prim.Native.Nat.{ℕ, ◌+◌, ◌-◌, ◌*◌, ◌≤◌, ◌<◌}
+use Prim.Native.Nat.{ℕ, ◌+◌, ◌-◌, ◌≤◌, ◌<◌}
 use native.Mathlib.Nat.{eq-zero-or-pos}
 use native.Mathlib.Omega.{arith}
 use lib.Dec.{ltb, eqb}
 use lib.ListN.{length, take, drop, length-drop}
 use lib.Seq.{length-take-le}
 use borrow.Author.Tests.{ltb-false, le-ltb, eqb-true, eq-eqb, not-false}
-use Rattle.scheme.specs.declared.Answer.{Answer}
-use Rattle.scheme.specs.declared.Answer.TheVariants.{Value, Refused}
-use Rattle.scheme.specs.declared.Scheme.{Scheme}
-use Rattle.scheme.specs.Facts.{SchemeIs}
-use Rattle.scheme.specs.Limits.{max_parties, max_block, max_message, max_blocks}
+use Rattle.std.specs.Prelude.{Result, Ok, Err}
+use Rattle.scheme.specs.declared.refusal.Refusal.{Refusal}
+use Rattle.scheme.specs.declared.forms.Form.{Form}
+use Rattle.scheme.specs.declared.forms.Form.TheVariants.{Earlier, Padded}
+use Rattle.scheme.specs.Refusals.{number}
+use Rattle.scheme.specs.Limits.{max_message}
 use Rattle.scheme.specs.Outcome.{Outcome, refused, outcome, number_if, first_of, answer}
 use Rattle.scheme.specs.Check.{refusal}
-use Rattle.scheme.proofs.Laws.{Way, answers, kept, refuses, first_none, first_if, first-passed, told-refused, told-accepted, scheme_own, padded_count_few}
+use Rattle.scheme.proofs.Laws.{Way, answers, kept, refuses, first_none, first_if, first-passed, told-refused, told-accepted}
 use Rattle.staircase.specs.Parameters.{Parameters, AcceptedScheme, key_bytes, share_bytes, output_bytes}
-use Rattle.staircase.proofs.Sizes.{blocks_few}
 use Rattle.dealer.specs.Split.{split_refusal, split_answer, split_output}
 use Rattle.dealer.specs.SplitPadded.{split_padded_refusal, split_padded_answer, split_padded_output}
-use Rattle.dealer.proofs.Laws.{none_applies, padded_none_applies, written as split-written, padded-written, output_long as split-output-long, padded_output_long, keys-part, keys_whole}
-use Rattle.key_pool.specs.declared.Form.{Form}
-use Rattle.key_pool.specs.declared.Form.TheVariants.{Earlier, Padded}
+use Rattle.dealer.proofs.Laws.{none_applies, padded_none_applies, written as split-written, padded-written, output_long as split-output-long, padded_output_long}
 use Rattle.key_pool.specs.declared.KeyPool.{KeyPool}
-use Rattle.key_pool.specs.declared.taking.Drawn.{Drawn}
-use Rattle.key_pool.specs.Forms.{blocks_of_length, blocks_in, shares_in, SplitInCall}
+use Rattle.dealer.specs.Forms.{blocks_in, shares_in, SplitInCall}
 use Rattle.key_pool.specs.Pool.{pool_refused, needed, pool_refusal, pool_answer, next_bytes, pool_output, moved_by, pool_after, PoolSplitCall, taken, took_if}
 use Rattle.key_pool.proofs.Room.{Room, room, taken_none, taken_some}
 
@@ -107,16 +104,10 @@ Ways form p message bytes pool out o =
     o
 
 -- nothing is written, and none is taken
-pub stopped : (form : Form) (p : Parameters) (message bytes : List ℕ) (pool : KeyPool) (before : List ℕ) (d : Drawn) {q : ℕ}
-    → (d.answer ≡ Refused q) × (d.bytes ≡ 0) → Ways form p (length message) (length bytes) pool (length before) (refused q)
-    → PoolSplitCall form p message bytes pool before d.answer before (taken pool d.bytes)
+pub stopped : (form : Form) (p : Parameters) (message bytes : List ℕ) (pool : KeyPool) (before : List ℕ) (q : Refusal)
+    → Ways form p (length message) (length bytes) pool (length before) (refused (number q)) → PoolSplitCall form p message bytes pool before (Err q) before pool
 unfolding pool_refusal pool_answer pool_output pool_after
-stopped form p message bytes pool before d is w =
-    record {
-      answered = ap outcome is.0 ∙ answers w;
-      wrote = (refuses _ w).1;
-      moved = ap (taken pool) is.1 ∙ taken_none pool ∙ (refuses _ w).1;
-    }
+stopped form p message bytes pool before q w = record { answered = answers w; wrote = (refuses _ w).1; moved = (refuses _ w).1 }
 
 -- what `lacks` answered of so many bytes, of as many
 pub at-need : (pool : KeyPool) (bytes need need' : ℕ) (r t : Bool) → need ≡ need' → r ≡ pool_refused pool bytes need → r ≡ t → pool_refused pool bytes need' ≡ t
@@ -133,7 +124,7 @@ split_refusals form p message keys out =
     ∷ number_if 10 (not (eqb out (output_bytes p (blocks_in form p message))))
     ∷ []
 
-split_says : (form : Form) (p : Parameters) (message keys before : List ℕ) (a : Answer) (after : List ℕ) → SplitInCall form p message keys before a after
+split_says : (form : Form) (p : Parameters) (message keys before : List ℕ) (a : Result ℕ Refusal) (after : List ℕ) → SplitInCall form p message keys before a after
     → (outcome a ≡ answer (first_of (split_refusals form p (length message) (length keys) (length before))) (share_bytes p (blocks_in form p (length message)) ∷ []))
     × (after ≡ cond (eqb (first_of (split_refusals form p (length message) (length keys) (length before))) 0) (shares_in form p message keys) before)
 unfolding split_refusal split_answer split_output split_padded_refusal split_padded_answer split_padded_output
@@ -164,51 +155,33 @@ module _ (form : Form) (p : Parameters) (message bytes : List ℕ) (pool : KeyPo
   pool_passed = first-passed _ _ good ∙ first-passed _ _ (rw (le-ltb max_message (length message) short)) ∙ first-passed _ _ (rw has)
 
   -- the bytes that it took, by its answer
-  moved_on : (a : Answer) → outcome a ≡ answer ten (share_bytes p (blocks_in form p (length message)) ∷ []) → taken pool (took_if a need) ≡ cond (eqb ten 0) (moved_by pool need) pool
-  moved_on (Value share) e = taken_some pool need left.inside ∙ rw (eq-eqb ten 0 (told-accepted (Value share) ten _ e refl).0)
-  moved_on (Refused q) e = taken_none pool ∙ kept _ (told-refused (Refused q) ten _ e refl)
+  moved_on : (a : Result ℕ Refusal) → outcome a ≡ answer ten (share_bytes p (blocks_in form p (length message)) ∷ []) → taken pool (took_if a need) ≡ cond (eqb ten 0) (moved_by pool need) pool
+  moved_on (Ok share) e = taken_some pool need left.inside ∙ rw (eq-eqb ten 0 (told-accepted (Ok share) ten _ e refl).0)
+  moved_on (Err q) e = taken_none pool ∙ kept _ (told-refused (Err q) ten _ e refl)
 
-  came : (d : Drawn) (a : Answer) (after : List ℕ) → (d.answer ≡ a) × (d.bytes ≡ took_if a need) → SplitInCall form p message keys before a after
-      → PoolSplitCall form p message bytes pool before d.answer after (taken pool d.bytes)
+  came : (a : Result ℕ Refusal) (after : List ℕ) → SplitInCall form p message keys before a after
+      → PoolSplitCall form p message bytes pool before a after (taken pool (took_if a need))
   unfolding pool_answer pool_output pool_after
-  came d a after is C =
+  came a after C =
       let says = split_says form p message keys before a after C in
       let told : outcome a ≡ answer ten (share_bytes p (blocks_in form p (length message)) ∷ []) = says.0 ∙ rw split-passed in
       record {
-        answered = ap outcome is.0 ∙ told ∙ rw pool_passed;
+        answered = told ∙ rw pool_passed;
         wrote = says.1 ∙ rw (split-passed, pool_passed);
-        moved = ap (taken pool) is.1 ∙ moved_on a told ∙ rw pool_passed;
+        moved = moved_on a told ∙ rw pool_passed;
       }
 
 -- the same of the numbers that the code has: so many bytes as it found, and the part of the pool that it lends
 pub came_out : (form : Form) (p : Parameters) (message bytes : List ℕ) (pool : KeyPool) (before : List ℕ) (found : ℕ) → found ≡ needed form p (length message)
     → AcceptedScheme p → length message ≤ max_message → pool_refused pool (length bytes) found ≡ false
-    → (d : Drawn) (a : Answer) (after : List ℕ) → (d.answer ≡ a) × (d.bytes ≡ took_if a found)
+    → (a : Result ℕ Refusal) (after : List ℕ)
     → SplitInCall form p message (take (pool.position + found - pool.position) (drop pool.position bytes)) before a after
-    → PoolSplitCall form p message bytes pool before d.answer after (taken pool d.bytes)
-came_out form p message bytes pool before found e good short has d a after is C =
+    → PoolSplitCall form p message bytes pool before a after (taken pool (took_if a found))
+came_out form p message bytes pool before found e good short has a after C =
     let part : pool.position + found - pool.position ≡ found = omega arith in
-    came form p message bytes pool before good short (rw e at has) d a after (is.0, is.1 ∙ rw e) (rw (part, e) at C)
+    rw e (came form p message bytes pool before good short (rw e at has) a after (rw (part, e) at C))
 
--- ---- the code's numbers: s is what the check answers, and N the blocks
-
-few_in : (form : Form) (p : Parameters) (s : Scheme) → SchemeIs s p.n p.r p.z p.counts → (message N : ℕ) → N ≡ blocks_of_length form s.block message → message ≤ max_message
-    → N ≤ max_blocks
-few_in Earlier p s is message N e short = blocks_few p s is message N e short
-few_in Padded p s is message N e short = rw e (padded_count_few s.block message short)
-
-module _ (form : Form) (p : Parameters) (s : Scheme) (is : SchemeIs s p.n p.r p.z p.counts) (message N : ℕ) (N_is : N ≡ blocks_of_length form s.block message) where
-  -- the bytes that it finds are those that are needed
-  pub need_is : (w : ℕ) → w ≡ s.z → N * w * s.rows ≡ needed form p message
-  need_is w e = rw (N_is, e, is.z_is, is.rows_is, is.block_is)
-
-  -- the products fit
-  module _ (short : message ≤ max_message) where
-    few : N ≤ max_blocks
-    few = few_in form p s is message N N_is short
-
-    pub need-part : (w : ℕ) → w ≡ s.z → N * w ≤ max_blocks * max_parties
-    need-part w e = keys-part s p.counts (scheme_own _ _ _ _ _ is) N w few e
-
-    pub need_whole : (w : ℕ) → w ≡ s.z → N * w * s.rows ≤ max_blocks * max_parties * max_block
-    need_whole w e = keys_whole s p.counts (scheme_own _ _ _ _ _ is) N w few e
+-- and where the splitter refuses none is taken
+pub refused_out : (form : Form) (p : Parameters) (message bytes : List ℕ) (pool : KeyPool) (before : List ℕ) (q : Refusal) (after : List ℕ)
+    → PoolSplitCall form p message bytes pool before (Err q) after (taken pool 0) → PoolSplitCall form p message bytes pool before (Err q) after pool
+refused_out form p message bytes pool before q after C = rw (taken_none pool) at C

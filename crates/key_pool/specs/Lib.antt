@@ -1,3 +1,2 @@
-pub mod Forms
 pub mod Pool
 pub mod Run

@@ -1,16 +1,15 @@
 -- A key pool (document 02's tray) and the splits that take their keys from it: the answer, the output and the record after a call. Only the form, the
 -- scheme, the lengths and the record decide the answer and the record after it.
 -- Assumes nothing.
-use Rattle.std.specs.Prelude.{◌≡◌, Bool, cond, not, ◌&&◌, ◌||◌, List, [], ◌∷◌, ℕ, ◌+◌, ◌-◌, ltb, leb, eqb, length, take, drop}
+use Rattle.std.specs.Prelude.{◌≡◌, Bool, cond, not, ◌&&◌, ◌||◌, List, [], ◌∷◌, ℕ, ◌+◌, ◌-◌, ltb, leb, eqb, length, take, drop, Result, Ok, Err}
 use Rattle.scheme.specs.Limits.{max_message}
-use Rattle.scheme.specs.declared.Answer.{Answer}
-use Rattle.scheme.specs.declared.Answer.TheVariants.{Value, Refused}
+use Rattle.scheme.specs.declared.refusal.Refusal.{Refusal}
+use Rattle.scheme.specs.declared.forms.Form.{Form}
 use Rattle.scheme.specs.Outcome.{Outcome, number_if, first_of, answer, outcome}
 use Rattle.scheme.specs.Check.{refusal}
 use Rattle.staircase.specs.Parameters.{Parameters, key_bytes, share_bytes, output_bytes}
-use Rattle.key_pool.specs.declared.Form.{Form}
 use Rattle.key_pool.specs.declared.KeyPool.{KeyPool}
-use Rattle.key_pool.specs.Forms.{blocks_in, shares_in}
+use Rattle.dealer.specs.Forms.{blocks_in, shares_in}
 
 -- refusal 16, for a split that takes `need` bytes from a pool of `bytes`: the record's length is another, or its position is past it, or fewer bytes are left
 unfoldable pub pool_refused : KeyPool → ℕ → ℕ → Bool
@@ -56,7 +55,7 @@ pool_after form p message bytes pool out =
     cond (eqb (pool_refusal form p message bytes pool out) 0) (moved_by pool (needed form p message)) pool
 
 -- a call, as its contract has it: what it answers, and what an output that held `before` and the record hold after it
-pub record PoolSplitCall (form : Form) (p : Parameters) (message bytes : List ℕ) (pool : KeyPool) (before : List ℕ) (a : Answer) (after : List ℕ) (next : KeyPool) : Type 0 where
+pub record PoolSplitCall (form : Form) (p : Parameters) (message bytes : List ℕ) (pool : KeyPool) (before : List ℕ) (a : Result ℕ Refusal) (after : List ℕ) (next : KeyPool) : Type 0 where
   pub answered : outcome a ≡ pool_answer form p (length message) (length bytes) pool (length before)
   pub wrote : after ≡ pool_output form p message bytes pool before
   pub moved : next ≡ pool_after form p (length message) (length bytes) pool (length before)
@@ -68,6 +67,6 @@ unfoldable pub taken : KeyPool → ℕ → KeyPool
 taken pool bytes = cond (leb pool.position pool.length && leb bytes (pool.length - pool.position)) (moved_by pool bytes) pool
 
 -- the bytes that a split took which was lent so many, by its answer
-abbrev pub took_if : Answer → ℕ → ℕ
-took_if (Value share) need = need
-took_if (Refused number) need = 0
+abbrev pub took_if : Result ℕ Refusal → ℕ → ℕ
+took_if (Ok share) need = need
+took_if (Err q) need = 0

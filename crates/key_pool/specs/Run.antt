@@ -1,12 +1,11 @@
 -- Runs: splits one after another on one pool, of any forms and schemes, accepted or refused, with nothing else writing its record; and the accounting of the
 -- pool's bytes (document 02, f). proofs/Runs.antt proves the statements. That a run gives nothing away is in crates/sharing/specs/PoolSecrecy.antt.
 -- Assumes nothing.
-use Rattle.std.specs.Prelude.{◌≡◌, List, [], ◌∷◌, map, ℕ, ◌+◌, ◌-◌, ◌≤◌, ◌<◌, length, drop}
+use Rattle.std.specs.Prelude.{◌≡◌, List, [], ◌∷◌, map, ℕ, ◌+◌, ◌-◌, ◌≤◌, ◌<◌, length, drop, Result, Ok, Err}
 use Rattle.lists.specs.Each.{Each}
-use Rattle.scheme.specs.declared.Answer.{Answer}
-use Rattle.scheme.specs.declared.Answer.TheVariants.{Value, Refused}
+use Rattle.scheme.specs.declared.refusal.Refusal.{Refusal}
+use Rattle.scheme.specs.declared.forms.Form.{Form}
 use Rattle.staircase.specs.Parameters.{Parameters}
-use Rattle.key_pool.specs.declared.Form.{Form}
 use Rattle.key_pool.specs.declared.KeyPool.{KeyPool}
 use Rattle.key_pool.specs.Pool.{needed, PoolSplitCall, took_if}
 
@@ -25,16 +24,16 @@ needs c = needed c.form c.scheme (length c.message)
 pub record Step : Type 0 where
   pub call : Call
   pub found : KeyPool
-  pub answer : Answer
+  pub answer : Result ℕ Refusal
   pub after : List ℕ
   pub next : KeyPool
 
 abbrev pub calls_of : List Step → List Call
 calls_of steps = map (λ (s : Step). s.call) steps
 
-abbrev pub IsAccepted : Answer → Type 0
-IsAccepted (Value share) = Unit {0}
-IsAccepted (Refused number) = ⊥
+abbrev pub IsAccepted : Result ℕ Refusal → Type 0
+IsAccepted (Ok share) = Unit {0}
+IsAccepted (Err q) = ⊥
 
 -- it is as the contract of the split has it, on a pool of these bytes
 abbrev pub Promised : List ℕ → Step → Type 0

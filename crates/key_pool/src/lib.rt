@@ -1,15 +1,14 @@
-// A pool of key bytes (document 02's tray): random bytes of which each is used once, and the splits that take their keys
+// A pool of key bytes (document 02's tray): random bytes of which each is used once, and the split that takes its keys
 // from it. The record of a pool says how many of its bytes are used. It is lent by `&mut` and moves with each split that is
-// accepted: a function that is given the record by value does the work (`drawing`), and one thin function stores what that
-// came to (`taking`).
+// accepted: a function that is given the record by value does the work (`drawing`), and one thin function moves the record
+// by what that took (`taking`).
 #![tactic(auto)]
 
-ghost use Rattle.staircase.specs.Parameters.{parameters, default_parameters};
-ghost use Rattle.key_pool.specs.declared.Form.TheVariants.{Earlier, Padded};
+ghost use Rattle.staircase.specs.Parameters.{given_parameters};
 ghost use Rattle.key_pool.specs.Pool.{PoolSplitCall};
 
-use drawing::{draw, draw_default, draw_padded, draw_padded_default};
-use scheme::Answer;
+use drawing::draw;
+use scheme::{Form, Parameters, Refusal};
 use taking::take;
 
 mod drawing;
@@ -24,76 +23,20 @@ pub struct KeyPool {
     pub position: usize,
 }
 
-// The two forms of a message: the earlier one, whose reader has to know its length, and padded, so that it shows its own
-// end (document 02, a).
-#[derive(Clone, Copy)]
-pub enum Form {
-    Earlier,
-    Padded,
-}
-
-// Splits a message of the earlier form under the next bytes of the pool, and moves the record past them. On a refusal
-// nothing is written and no byte is taken. Refusals 1 to 5 and 10 are those of `dealer::split`. In place of 8 there is 16:
-// the record's length is not that of the pool, or its position is past it, or fewer bytes are left than the split takes.
+// Splits a message under the next bytes of the pool, and moves the record past them. On a refusal nothing is written and no
+// byte is taken. Refusals 1 to 5 and 10 are those of `dealer::split`. In place of 8 there is 16: the record's length is not
+// that of the pool, or its position is past it, or fewer bytes are left than the split takes.
 pub fn split_from_pool(
     pool: &mut KeyPool,
-    n: u8,
-    r: u8,
-    z: u8,
-    counts: &[u8],
+    form: Form,
+    given: Parameters,
     message: &[u8],
     bytes: &[u8],
     out: &mut [u8],
-) -> Answer
-    ensures { PoolSplitCall Earlier (parameters n r z counts.now) message.now bytes.now pool.old out.old result out.new pool.new }
+) -> Result<usize, Refusal>
+    ensures { PoolSplitCall form (given_parameters given.entry) message.now bytes.now pool.old out.old result out.new pool.new }
 {
-    let old = *pool;
-    let drawn = draw(old, n, r, z, counts, message, bytes, out);
-    take(pool, drawn)
-}
-
-// The same of a padded message.
-pub fn split_padded_from_pool(
-    pool: &mut KeyPool,
-    n: u8,
-    r: u8,
-    z: u8,
-    counts: &[u8],
-    message: &[u8],
-    bytes: &[u8],
-    out: &mut [u8],
-) -> Answer
-    ensures { PoolSplitCall Padded (parameters n r z counts.now) message.now bytes.now pool.old out.old result out.new pool.new }
-{
-    let old = *pool;
-    let drawn = draw_padded(old, n, r, z, counts, message, bytes, out);
-    take(pool, drawn)
-}
-
-// The earlier form in the default scheme.
-pub fn split_from_pool_default(
-    pool: &mut KeyPool,
-    message: &[u8],
-    bytes: &[u8],
-    out: &mut [u8],
-) -> Answer
-    ensures { PoolSplitCall Earlier default_parameters message.now bytes.now pool.old out.old result out.new pool.new }
-{
-    let old = *pool;
-    let drawn = draw_default(old, message, bytes, out);
-    take(pool, drawn)
-}
-
-// A padded message in the default scheme.
-pub fn split_padded_from_pool_default(
-    pool: &mut KeyPool,
-    message: &[u8],
-    bytes: &[u8],
-    out: &mut [u8],
-) -> Answer
-    ensures { PoolSplitCall Padded default_parameters message.now bytes.now pool.old out.old result out.new pool.new }
-{
-    let old = *pool;
-    let drawn = draw_padded_default(old, message, bytes, out);
-    take(pool, drawn)
+    let drawn = draw(*pool, form, given, message, bytes, out)?;
+    take(pool, drawn.bytes);
+    Ok(drawn.share)
 }

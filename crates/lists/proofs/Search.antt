@@ -1,12 +1,14 @@
 -- The tests `occurs` and `distinct` as loops make them, place by place: at the end of the list, where a number is found, and at the next place.
 -- Assumes nothing.
-use mathlib.Core.Path.{◌≡◌}
-use mathlib.Core.Bool.{true, false}
-use mathlib.Core.List.{List}
+use mathlib.Core.Path.{◌≡◌, refl, ap}
+use mathlib.Core.Bool.{Bool, true, false, ◌||◌}
+use mathlib.Core.List.{List, [], ◌∷◌}
 use Prim.Native.Nat.{ℕ, ◌+◌, ◌≤◌, ◌<◌}
 use native.Mathlib.Numerals.{add-one}
 use lib.ListN.{length, get_or, drop, drop_of_length-le}
 use lib.Seq.{drop-cons}
+use lib.Dec.{eqb}
+use Rattle.std.specs.List.{list_any}
 use borrow.Author.Tests.{eq-eqb, ne_eqb}
 use Rattle.lists.specs.Each.{occurs, distinct}
 
@@ -35,3 +37,9 @@ module _ (xs : List ℕ) (i : ℕ) where
   pub distinct-next : i < length xs → occurs (get_or xs i 0) (drop (i + 1) xs) ≡ false → distinct (drop i xs) ≡ distinct (drop (i + 1) xs)
   unfolding distinct
   distinct-next h e = rw (add-one, drop-cons xs i 0 h, (rw add-one at e))
+
+-- the test as `any` makes it
+pub occurs_any : (x : ℕ) (xs : List ℕ) → list_any (eqb x) xs ≡ occurs x xs
+unfolding occurs
+occurs_any x [] = refl
+occurs_any x (y ∷ ys) = ap (λ (t : Bool). eqb x y || t) (occurs_any x ys)

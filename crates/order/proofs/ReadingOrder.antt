@@ -4,7 +4,7 @@
 use mathlib.Core.Path.{◌≡◌, refl, sym, ap, ◌∙◌}
 use mathlib.Core.List.{List, [], ◌∷◌}
 use mathlib.Core.Logic.{◌≢◌, inl, inr, ⊎_elim}
-use Prim.Native.Nat.{ℕ, zero, suc, ◌+◌, ◌-◌, ◌≤◌, ◌<◌, min, zero-le}
+use Prim.Native.Nat.{ℕ, zero, suc, ◌+◌, ◌-◌, ◌≤◌, ◌<◌, zero-le}
 use native.Mathlib.Nat.{eq-or-lt_of_le}
 use native.Mathlib.Numerals.{add-one}
 use native.Mathlib.Omega.{arith}
@@ -95,23 +95,20 @@ module _ (m z : ℕ) (ds : List ℕ) where
   turn_none zero = refl
   turn_none (suc left) = refl
 
--- the same in the code's numbers: g groups are left, the last of them from row `from` up to `end`; `least` is the smaller of the two
-module _ (m z : ℕ) (ds : List ℕ) (g from end least : ℕ) (pos : 0 < g) (from_is : from ≡ rows_before m z ds (g - 1)) (end_is : end ≡ rows_before m z ds g)
-    (least-is : least ≡ min from end) where
+-- the same in the code's numbers: g groups are left, the last of them from row `from` up to `end`, and `many` rows
+module _ (m z : ℕ) (ds : List ℕ) (g from end many : ℕ) (pos : 0 < g) (from_is : from ≡ rows_before m z ds (g - 1)) (end_is : end ≡ rows_before m z ds g)
+    (many-is : many ≡ end - from) where
   next : suc (g - 1) ≡ g
   next = omega arith
 
-  many_are : rows_before m z ds g - rows_before m z ds (g - 1) ≡ end - least
-  many_are = rw (← from_is, ← end_is, least-is) (omega arith)
+  many_are : rows_before m z ds g - rows_before m z ds (g - 1) ≡ many
+  many_are = rw (← from_is, ← end_is, many-is)
 
-  pub code_here : (left : ℕ) → left < end - least → get_or (groups_down m z ds g) left 0 ≡ from + left
+  pub code_here : (left : ℕ) → left < many → get_or (groups_down m z ds g) left 0 ≡ from + left
   code_here left h = rw (next, ← from_is) at (turn_here m z ds (g - 1) left (rw (next, many_are) h))
 
-  pub code_past : (left : ℕ) → end - least ≤ left → get_or (groups_down m z ds g) left 0 ≡ get_or (groups_down m z ds (g - 1)) (left - (end - least)) 0
+  pub code_past : (left : ℕ) → many ≤ left → get_or (groups_down m z ds g) left 0 ≡ get_or (groups_down m z ds (g - 1)) (left - many) 0
   code_past left h = rw (next, many_are) at (turn_past m z ds (g - 1) left (rw (next, many_are) h))
-
-  pub code_room : (left : ℕ) → left < end - least → from + left < end
-  code_room left h = omega (arith, least-is)
 
 -- the row of a turn, in the code's numbers
 pub code_turn : (m z : ℕ) (ds : List ℕ) (d groups u j : ℕ) → groups ≡ group_number d ds → j ≡ get_or (groups_down m z ds groups) u 0 → j ≡ row_in_turn m z ds d u

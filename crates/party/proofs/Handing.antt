@@ -12,9 +12,9 @@ use lib.Seq.{length-take-le}
 use borrow.Author.Tests.{eqb-true, not-false}
 use Rattle.lists.specs.Each.{occurs}
 use Rattle.lists.proofs.Tests.{test_positive}
-use Rattle.scheme.specs.declared.Scheme.{Scheme}
-use Rattle.scheme.specs.declared.Answer.{Answer}
-use Rattle.scheme.specs.declared.Answer.TheVariants.{Value, Refused}
+use Rattle.scheme.specs.declared.accepted.Scheme.{Scheme}
+use Rattle.std.specs.Prelude.{Result, Ok, Err}
+use Rattle.scheme.specs.declared.refusal.Refusal.{Refusal}
 use Rattle.scheme.specs.Facts.{SchemeIs}
 use Rattle.scheme.specs.Limits.{max_message, max_blocks}
 use Rattle.scheme.specs.Outcome.{outcome, answer}
@@ -28,9 +28,9 @@ use Rattle.staircase.proofs.Sizes.{rows-within, blocks_are}
 
 -- the code's P × N: s is what the check answers, N the blocks of the message and P the rows of d
 pub prefix_length_is : (p : Parameters) (s : Scheme) → SchemeIs s p.n p.r p.z p.counts → (message d N P : ℕ)
-    → N ≡ block_count s.block message → P ≡ rows_of_count s.block p.z d → P * N ≡ prefix_length p message d
+    → N ≡ block_count s.block message → P ≡ rows_of_count s.block s.z d → P * N ≡ prefix_length p message d
 unfolding prefix_length
-prefix_length_is p s is message d N P N_is P-is = rw (P-is, blocks_are p s is message N N_is, is.block_is)
+prefix_length_is p s is message d N P N_is P-is = rw (P-is, blocks_are p s is message N N_is, is.block_is, is.z_is)
 
 -- and N of a share of a padded message, which the share's length tells; more are not accepted than a message makes
 module _ (p : Parameters) (s : Scheme) (is : SchemeIs s p.n p.r p.z p.counts) (share N : ℕ) (N_is : N ≡ blocks_held (most_padded s.block) s.rows share) where
@@ -43,9 +43,9 @@ module _ (p : Parameters) (s : Scheme) (is : SchemeIs s p.n p.r p.z p.counts) (s
       let told = (held-told (most_padded s.block) s.rows share (rw N_is at some)).1 in
       omega (arith, N_is, told, padded_count_few s.block max_message (le_refl max_message))
 
-  pub padded_length_is : (d P : ℕ) → P ≡ rows_of_count s.block p.z d → P * N ≡ prefix_padded_length p d share
+  pub padded_length_is : (d P : ℕ) → P ≡ rows_of_count s.block s.z d → P * N ≡ prefix_padded_length p d share
   unfolding prefix_padded_length
-  padded_length_is d P P-is = rw (P-is, kept_is, is.block_is)
+  padded_length_is d P P-is = rw (P-is, kept_is, is.block_is, is.z_is)
 
 -- ---- what holds where no refusal applies
 
@@ -109,11 +109,11 @@ module _ (k v : ℕ) (share : List ℕ) (whole : k ≡ 0 → v ≤ length share)
   part_whole e = simp e (length-take-le v share (whole e))
 
   -- the code's two ways out, from the answer a for the length
-  module _ (a : Answer) (e : outcome a ≡ answer k (v ∷ [])) where
-    part_none : {q : ℕ} → a ≡ Refused q → [] ≡ part
+  module _ (a : Result ℕ Refusal) (e : outcome a ≡ answer k (v ∷ [])) where
+    part_none : {q : Refusal} → a ≡ Err q → [] ≡ part
     part_none told = kept _ (told-refused a k v e told)
 
-    module _ (bytes : ℕ) (told : a ≡ Value bytes) where
+    module _ (bytes : ℕ) (told : a ≡ Ok bytes) where
       part_long : bytes ≡ length (take bytes share)
       part_long =
           let passed = told-accepted a k v e told in
@@ -128,16 +128,16 @@ module _ (p : Parameters) (message d : ℕ) (share : List ℕ) where
   unfolding prefix_of
   prefix_whole = part_whole _ _ share (prefix-within p message d (length share))
 
-  module _ (a : Answer) (e : outcome a ≡ prefix_answer p message d (length share)) where
-    pub prefix_none : {q : ℕ} → a ≡ Refused q → [] ≡ prefix_of p message d share
+  module _ (a : Result ℕ Refusal) (e : outcome a ≡ prefix_answer p message d (length share)) where
+    pub prefix_none : {q : Refusal} → a ≡ Err q → [] ≡ prefix_of p message d share
     unfolding prefix_answer prefix_of
     prefix_none = part_none _ _ share (prefix-within p message d (length share)) a e
 
-    pub prefix_long : (bytes : ℕ) → a ≡ Value bytes → bytes ≡ length (take bytes share)
+    pub prefix_long : (bytes : ℕ) → a ≡ Ok bytes → bytes ≡ length (take bytes share)
     unfolding prefix_answer
     prefix_long = part_long _ _ share (prefix-within p message d (length share)) a e
 
-    pub prefix_is : (bytes : ℕ) → a ≡ Value bytes → take bytes share ≡ prefix_of p message d share
+    pub prefix_is : (bytes : ℕ) → a ≡ Ok bytes → take bytes share ≡ prefix_of p message d share
     unfolding prefix_answer prefix_of
     prefix_is = part_is _ _ share (prefix-within p message d (length share)) a e
 
@@ -146,15 +146,15 @@ module _ (p : Parameters) (d : ℕ) (share : List ℕ) where
   unfolding prefix_padded_of
   padded_whole = part_whole _ _ share (padded-within p d (length share))
 
-  module _ (a : Answer) (e : outcome a ≡ prefix_padded_answer p d (length share)) where
-    pub padded_none : {q : ℕ} → a ≡ Refused q → [] ≡ prefix_padded_of p d share
+  module _ (a : Result ℕ Refusal) (e : outcome a ≡ prefix_padded_answer p d (length share)) where
+    pub padded_none : {q : Refusal} → a ≡ Err q → [] ≡ prefix_padded_of p d share
     unfolding prefix_padded_answer prefix_padded_of
     padded_none = part_none _ _ share (padded-within p d (length share)) a e
 
-    pub padded_long : (bytes : ℕ) → a ≡ Value bytes → bytes ≡ length (take bytes share)
+    pub padded_long : (bytes : ℕ) → a ≡ Ok bytes → bytes ≡ length (take bytes share)
     unfolding prefix_padded_answer
     padded_long = part_long _ _ share (padded-within p d (length share)) a e
 
-    pub padded_is : (bytes : ℕ) → a ≡ Value bytes → take bytes share ≡ prefix_padded_of p d share
+    pub padded_is : (bytes : ℕ) → a ≡ Ok bytes → take bytes share ≡ prefix_padded_of p d share
     unfolding prefix_padded_answer prefix_padded_of
     padded_is = part_is _ _ share (padded-within p d (length share)) a e

@@ -2,25 +2,36 @@
 -- Assumes nothing.
 use mathlib.Core.Path.{◌≡◌, refl, sym}
 use mathlib.Core.Bool.{true}
-use mathlib.Core.List.{List}
+use mathlib.Core.List.{List, [], ◌∷◌}
 use Prim.Native.Nat.{ℕ, ◌*◌, ◌≤◌}
 use native.Mathlib.Nat.{mul-le-mul}
 use native.Mathlib.Omega.{arith}
 use Rattle.lists.specs.Each.{occurs}
 use Rattle.lists.proofs.Each.{occurs-place}
 use Rattle.interpolation.specs.Interpolation.{side}
-use Rattle.scheme.specs.declared.Scheme.{Scheme}
+use Rattle.scheme.specs.declared.accepted.Scheme.{Scheme}
+use Rattle.scheme.specs.declared.parameters.Parameters.{Parameters as Given}
+use Rattle.scheme.specs.Outcome.{accepted}
+use Rattle.scheme.specs.Check.{checked}
 use Rattle.scheme.specs.Facts.{SchemeFacts, SchemeIs}
 use Rattle.scheme.specs.Limits.{max_block, max_blocks}
-use Rattle.scheme.proofs.Laws.{scheme_own}
+use Rattle.scheme.proofs.Laws.{accepted-scheme, scheme_own}
+use Rattle.staircase.specs.Parameters.{given_parameters, parameters_of}
 use Rattle.staircase.proofs.Sizes.{rows_few}
 use Rattle.rows.proofs.Scheme.{facts_of}
 use Rattle.order.proofs.ReadingOrder.{CountIn}
 use Rattle.reader.specs.Decoding.{sent_rows, sent_bytes, Counted, Input}
 
--- s is what the check answers for these parameters
-pub counted_of : {n r z : ℕ} {ds : List ℕ} {s : Scheme} {d : ℕ} → SchemeIs s n r z ds → occurs d ds ≡ true → Counted s ds d
-counted_of is h = record { scheme = scheme_own _ _ _ _ _ is; count = h }
+-- the parameters that a call was given are those of the scheme that the check answered
+pub given_own : (given : Given) (s : Scheme) → accepted (s.n ∷ s.r ∷ s.z ∷ s.block ∷ s.rows ∷ []) ≡ checked given.n given.r given.z given.counts.now
+    → s.counts ≡ given.counts → given_parameters given ≡ parameters_of s
+given_own given s e lent =
+    let is : SchemeIs s given.n given.r given.z given.counts.now = accepted-scheme e in
+    rw (is.n_is, is.r_is, is.z_is, lent) refl
+
+-- d is one of its counts
+pub counted_own : (s : Scheme) (d : ℕ) → occurs d s.counts.now ≡ true → Counted s s.counts.now d
+counted_own s d h = record { scheme = scheme_own s; count = h }
 
 module _ {s : Scheme} {ds : List ℕ} {d : ℕ} (C : Counted s ds d) where
   pub A : SchemeFacts s.n s.r s.z ds s.block s.rows

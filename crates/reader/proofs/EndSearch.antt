@@ -1,11 +1,11 @@
--- The search for the end of a padded message: a choice without a branch, the last byte that is not 0, and the end that it tells.
+-- The search for the end of a padded message: the last byte that is not 0, and the end that it tells.
 -- Assumes nothing.
 use mathlib.Core.Path.{◌≡◌, refl, sym, ap, ◌∙◌}
 use mathlib.Core.Bool.{true, false, cond, not}
 use mathlib.Core.List.{List, ◌∷◌}
 use mathlib.Core.Logic.{◌≢◌, ⊎_elim}
 use Prim.Native.Nat.{ℕ, zero, suc, ◌+◌, ◌-◌, ◌*◌, ◌≤◌, ◌<◌}
-use native.Mathlib.Nat.{mul-zero, mul-one, eq-zero-or-pos}
+use native.Mathlib.Nat.{eq-zero-or-pos}
 use native.Mathlib.Numerals.{add-one}
 use native.Mathlib.Omega.{arith}
 use lib.Dec.{eqb}
@@ -15,27 +15,12 @@ use borrow.Author.Tests.{eq-eqb, ne_eqb, lt-ltb, le-ltb}
 use Rattle.lists.specs.Table.{piece}
 use Rattle.lists.proofs.Parts.{rest-length}
 use Rattle.lists.proofs.Joined.{last_row}
-use Rattle.lists.proofs.Tests.{cond_ind}
 use Rattle.scheme.specs.Limits.{max_message}
 use Rattle.scheme.specs.Padding.{end_marker}
 use Rattle.family.specs.Padding.{last_nonzero, end_place, end_missing, end_refused}
 use Rattle.family.proofs.Padding.{last_past, last_here, last_within, last-zeros}
 use Rattle.reader.specs.declared.ending.Last.{Last}
 use Rattle.reader.specs.Ending.{LastOf}
-
--- ---- a choice: the first number times 1 or 0 and the second times 0 or 1
-
-pub picked : (second a b : ℕ) → second ≤ 1 → a * (1 - second) + b * second ≡ cond (eqb second 0) a b
-picked zero a b h = omega (arith, mul-one a, mul-zero b)
-picked (suc zero) a b h = omega (arith, mul-zero a, mul-one b)
-picked (suc (suc n)) a b h = absurd (let no : ⊥ = omega arith in no)
-
-pub picked_within : (second a b most : ℕ) → second ≤ 1 → a ≤ most → b ≤ most → a * (1 - second) + b * second ≤ most
-picked_within second a b most h ha hb = rw (picked second a b h) (cond_ind (λ (v : ℕ). v ≤ most) {t = eqb second 0} (λ _. ha) (λ _. hb))
-
--- by a number that is 0 or 1
-pub bit_most : (x some : ℕ) → some ≡ cond (eqb x 0) 0 1 → some ≤ 1
-bit_most x some e = rw e (cond_ind (λ (v : ℕ). v ≤ 1) {t = eqb x 0} (λ _. omega arith) (λ _. omega arith))
 
 -- ---- the last byte that is not 0
 
@@ -99,6 +84,9 @@ pub record FoundLast (m : ℕ) (blocks : List ℕ) (last : Last) : Type 0 where
   pub positive : 0 < m
   pub room : m ≤ length blocks
   pub found : LastOf (last_bytes m blocks) last
+
+pub found_last : (m : ℕ) (blocks : List ℕ) (last : Last) → (0 < m) × (m ≤ length blocks) → LastOf (last_bytes m blocks) last → FoundLast m blocks last
+found_last m blocks last fits is = record { positive = fits.0; room = fits.1; found = is }
 
 module _ {m : ℕ} {blocks : List ℕ} {last : Last} (F : FoundLast m blocks last) where
   long : length (last_bytes m blocks) ≡ m

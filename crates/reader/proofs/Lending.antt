@@ -19,7 +19,7 @@ use Rattle.lists.specs.FirstFrom.{first_from}
 use Rattle.lists.specs.Table.{tabulate, piece}
 use Rattle.lists.specs.Without.{without, without_piece, skipped}
 use Rattle.lists.proofs.Differing.{differing_self, differing_none}
-use Rattle.lists.proofs.Each.{get_or-map, each_take, distinct-take}
+use Rattle.lists.proofs.Each.{get_or-map, each_of, each_take, distinct-take}
 use Rattle.lists.proofs.FirstFrom.{first_here, first_next, first_end}
 use Rattle.lists.proofs.Joined.{in-grid}
 use Rattle.lists.proofs.Members.{occurs-at}
@@ -30,12 +30,12 @@ use Rattle.lists.proofs.Tests.{neither}
 use Rattle.lists.proofs.Without.{length_without}
 use Rattle.interpolation.specs.Interpolation.{side}
 use Rattle.interpolation.specs.Opening.{value_weight}
-use Rattle.scheme.specs.declared.Scheme.{Scheme}
+use Rattle.scheme.specs.declared.accepted.Scheme.{Scheme}
 use Rattle.scheme.specs.Facts as facts
 use Rattle.scheme.specs.Limits.{max_block, max_blocks}
-use Rattle.scheme.proofs.Laws.{readers_rise, parties_distinct, parties_few}
+use Rattle.scheme.proofs.Laws.{scheme_own, readers_rise, parties_distinct, parties_few}
 use Rattle.family.specs.Family.{share_of_blocks}
-use Rattle.staircase.specs.Parameters.{Parameters, Party, parameters_of, block, rows, point}
+use Rattle.staircase.specs.Parameters.{Parameters, Party, parameters_with, parameters_of, block, rows, point}
 use Rattle.staircase.specs.Coefficients.{share_byte}
 use Rattle.staircase.specs.Shares.{staircase}
 use Rattle.staircase.proofs.Columns.{part_at}
@@ -43,9 +43,9 @@ use Rattle.rows.proofs.Scheme.{facts_of, rows_high}
 use Rattle.order.proofs.RowsTaken.{reached_all}
 use Rattle.agreement.specs.Agreement.{share_in, enough, first_shares, found_blocks, found_keys, rebuilt, agrees, agrees_without, named, Lent}
 use Rattle.agreement.proofs.Laws.{all-sent, rebuilt_long, found-bytes, found_keys-bytes, found_gives, names_none, first-given, lent-left, agrees-all, agrees-not}
-use Rattle.reader.specs.Decoding.{WeightsOf, sent_rows, read_from, Input, Sent, EachSent, Found}
+use Rattle.reader.specs.Decoding.{WeightsOf, sent_rows, read_from, Counted, Input, Sent, EachSent, Found}
 use Rattle.reader.specs.Filling.{share_at, FillsShare}
-use Rattle.reader.specs.Agreeing.{Lending, weights_in, found_in, rebuilt_in, agrees_in, same_at}
+use Rattle.reader.specs.Agreeing.{Lending, first_in, weights_in, found_in, rebuilt_in, agrees_in, same_at}
 use Rattle.reader.proofs.CountedScheme.{count_in}
 use Rattle.reader.proofs.Reading.{largest_weights, sent_by}
 use Rattle.reader.proofs.RowOrder.{found_all}
@@ -62,20 +62,20 @@ points-left p parties skip d h =
     ∙ ap (point p) (get_or-take d (without skip parties) i 0 b ∙ get_or-without parties skip i))
 
 -- the share at a party's point is the party's share
-share_at_is : (s : Scheme) (ds : List ℕ) (S : facts.SchemeIs s s.n s.r s.z ds) (N : ℕ) (B K : List ℕ) → length B ≡ N * block (parameters_of s ds)
-    → length K ≡ N * (rows (parameters_of s ds) * s.z) → (party : ℕ)
-    → share_at s ds N B K (point (parameters_of s ds) party) ≡ share_in (parameters_of s ds) N B K party
+share_at_is : (s : Scheme) (ds : List ℕ) (S : facts.SchemeIs s s.n s.r s.z ds) (N : ℕ) (B K : List ℕ) → length B ≡ N * block (parameters_with s ds)
+    → length K ≡ N * (rows (parameters_with s ds) * s.z) → (party : ℕ)
+    → share_at s ds N B K (point (parameters_with s ds) party) ≡ share_in (parameters_with s ds) N B K party
 unfolding share_of_blocks share_byte staircase
 share_at_is s ds S N B K whole enough party =
     rw (S.block_is, S.rows_is)
-    (tabulate-same (rows (parameters_of s ds) * N) _ _
+    (tabulate-same (rows (parameters_with s ds) * N) _ _
     (λ i h.
-    let g = in-grid i (rows (parameters_of s ds)) N h in
-    sym (part_at (parameters_of s ds) S.passed N B K whole enough (i % N) (i / N) g.1 g.0 party)))
+    let g = in-grid i (rows (parameters_with s ds)) N h in
+    sym (part_at (parameters_with s ds) S.passed N B K whole enough (i % N) (i / N) g.1 g.0 party)))
 
-module _ {s : Scheme} {ds parties : List ℕ} {blocks skip : ℕ} {shares : List ℕ} (L : Lending s ds parties blocks skip shares) where
+module _ {s : Scheme} {parties : List ℕ} {blocks skip : ℕ} {shares : List ℕ} (L : Lending s parties blocks skip shares) where
   abbrev p : Parameters
-  p = parameters_of s ds
+  p = parameters_of s
 
   abbrev d : ℕ
   d = s.n - s.r
@@ -89,15 +89,15 @@ module _ {s : Scheme} {ds parties : List ℕ} {blocks skip : ℕ} {shares : List
   abbrev core : List ℕ
   core = take d left
 
-  A : facts.SchemeFacts s.n s.r s.z ds s.block s.rows
-  A = facts_of s ds L.scheme
+  A : facts.SchemeFacts s.n s.r s.z s.counts.now s.block s.rows
+  A = facts_of s s.counts.now (scheme_own s)
 
   -- enough parties send all rows
   pub sent-all : sent_rows s d ≡ s.rows
   sent-all = rw (← A.bottom) A.last-rows
 
-  pub count_of : occurs d ds ≡ true
-  count_of = rw (← A.bottom) (occurs-at (get_or ds (length ds - 1) 0) ds (length ds - 1) (omega (arith, A.some)) refl)
+  count_of : occurs d s.counts.now ≡ true
+  count_of = rw (← A.bottom) (occurs-at (get_or s.counts.now (length s.counts.now - 1) 0) s.counts.now (length s.counts.now - 1) (omega (arith, A.some)) refl)
 
   pub few : d ≤ 16
   few = omega (arith, A.sizes.parties_high)
@@ -105,17 +105,14 @@ module _ {s : Scheme} {ds parties : List ℕ} {blocks skip : ℕ} {shares : List
   -- a share is short
   pub share_short : s.rows * blocks ≤ max_block * max_blocks
   share_short =
-      let high : s.rows ≤ max_block = omega (arith, rows_high s ds L.scheme, A.limit) in
+      let high : s.rows ≤ max_block = omega (arith, rows_high s s.counts.now (scheme_own s), A.limit) in
       mul-le-mul high L.blocks_high
 
-  pub counts_some : 0 < length ds
+  pub counts_some : 0 < length s.counts.now
   counts_some = A.some
 
-  pub list_few : length parties ≤ 16
-  list_few = parties_few s.n s.r s.z ds L.scheme.passed parties L.passed
-
-  pub lost_few : s.r ≤ s.n
-  lost_few = omega (arith, A.sizes.room)
+  list_few : length parties ≤ 16
+  list_few = parties_few s.n s.r s.z s.counts.now s.accepted.passed parties L.passed
 
   right : Distinct parties × Each (Party p) parties
   right = parties_distinct s.n parties (readers_rise s.n parties L.passed)
@@ -125,7 +122,7 @@ module _ {s : Scheme} {ds parties : List ℕ} {blocks skip : ℕ} {shares : List
 
   -- the shares from the first on that have those of the first d parties
   module _ (m : ℕ) (which : ((skip < d) × (m ≡ d + 1)) ⊎ ((d ≤ skip) × (m ≡ d))) where
-    pub lent_fits : m ≤ length parties
+    lent_fits : m ≤ length parties
     lent_fits =
         let long = left_long parties skip d L.many in
         ⊎_elim (λ (h : (skip < d) × (m ≡ d + 1)). omega (arith, long.1 h.0)) (λ (h : (d ≤ skip) × (m ≡ d)). omega (arith, long.0)) which
@@ -138,89 +135,91 @@ module _ {s : Scheme} {ds parties : List ℕ} {blocks skip : ℕ} {shares : List
         let most : m ≤ side = omega (arith, lent_fits, list_few) in
         mul-le-mul most share_short
 
-  module _ (bytes : Each Byte shares) where
-    lent-all : Lent p parties blocks shares
-    lent-all =
+  lent-all : Lent p parties blocks shares
+  lent-all =
+      record {
+        scheme = s.accepted.passed;
+        distinct = right.0;
+        inside = right.1;
+        bytes = (rw (← s.accepted.rows_is) L.shares_long, each_of Byte shares 0 (λ i _. L.bytes i));
+      }
+
+  lent : Lent p left blocks left_shares
+  lent = rw s.accepted.rows_is (lent-left p parties blocks shares lent-all skip)
+
+  abbrev found : List ℕ
+  found = found_blocks p left blocks left_shares
+
+  abbrev keys : List ℕ
+  keys = found_keys p left blocks left_shares
+
+  apart : Distinct core
+  apart = distinct-take d left lent.distinct
+
+  inside : Each (Party p) core
+  inside = each_take (Party p) d left lent.inside
+
+  first_room : d * (s.rows * blocks) ≤ length left_shares
+  first_room =
+      rw (lent.bytes.0, ← s.accepted.rows_is) (mul-le-mul_right (s.rows * blocks) L.many)
+
+  first-same : take (d * (s.rows * blocks)) left_shares ≡ first_shares p blocks left_shares
+  first-same = ap (λ (b : ℕ). take (d * (b * blocks)) left_shares) s.accepted.rows_is
+
+  counted : Counted s s.counts.now d
+  counted = record { scheme = scheme_own s; count = count_of }
+
+  -- what is read are the shares of the first d parties
+  module _ (m : ℕ) (which : ((skip < d) × (m ≡ d + 1)) ⊎ ((d ≤ skip) × (m ≡ d))) where
+    pub read : read_from s d blocks skip (take (m * (s.rows * blocks)) shares) ≡ first_in s blocks skip shares
+    read = rw sent-all (take-without (s.rows * blocks) skip d m shares first_room (bytes_fit m which) which)
+
+    pub input : Input s s.counts.now d blocks (read_from s d blocks skip (take (m * (s.rows * blocks)) shares))
+    input =
         record {
-          scheme = L.scheme.passed;
-          distinct = right.0;
-          inside = right.1;
-          bytes = (rw (← L.scheme.rows_is) L.shares_long, bytes);
+          counted = counted;
+          blocks_high = L.blocks_high;
+          prefixes_long = ap length read ∙ length-take-le (d * (s.rows * blocks)) left_shares first_room ∙ ap (λ (x : ℕ). d * (x * blocks)) (sym sent-all);
         }
 
-    pub lent : Lent p left blocks left_shares
-    lent = rw L.scheme.rows_is (lent-left p parties blocks shares lent-all skip)
+  sent-first : Sent s s.counts.now (length core) blocks (map (point p) core) (first_in s blocks skip shares) found keys
+  sent-first =
+      sent_by s s.counts.now (scheme_own s) core (rw core_long count_of) (apart, inside) blocks (first_in s blocks skip shares) found keys
+      (found-bytes p left blocks left_shares lent L.many) (found_keys-bytes p left blocks left_shares lent L.many)
+      (rw (all-sent p s.accepted.passed core core_long apart inside, first-same) (found_gives p left blocks left_shares lent L.many))
 
-    abbrev found : List ℕ
-    found = found_blocks p left blocks left_shares
+  sent : Sent s s.counts.now d blocks (map (point p) core) (first_in s blocks skip shares) found keys
+  sent = rw core_long at sent-first
 
-    abbrev keys : List ℕ
-    keys = found_keys p left blocks left_shares
+  -- the weights are those for the largest count
+  module _ (weights : List (List ℕ)) (weights-are : weights ≡ weights_in s parties skip) where
+    weighed : WeightsOf (map (point p) core) d (get_or s.counts.now 0 0) weights
+    weighed = rw weights-are (rw core_long at (largest_weights s s.counts.now (scheme_own s) core (rw core_long count_of) (apart, inside) blocks))
 
-    apart : Distinct core
-    apart = distinct-take d left lent.distinct
+    found_long : length found ≡ blocks * s.block
+    found_long = (found-bytes p left blocks left_shares lent L.many).0 ∙ ap (λ (x : ℕ). blocks * x) (sym s.accepted.block_is)
 
-    inside : Each (Party p) core
-    inside = each_take (Party p) d left lent.inside
+    -- the loops find the blocks
+    pub opened : (work : List ℕ) → length work ≡ blocks * s.block
+        → EachSent s s.counts.now d blocks weights (first_in s blocks skip shares) (λ B. Found s s.counts.now d blocks s.rows B work)
+        → work ≡ found_in s parties blocks skip shares
+    opened work long E =
+        found_all s s.counts.now d blocks s.rows 0 (blocks * s.block) found work
+        (rw (← sent-all) (reached_all (count_in counted) 0 (blocks * s.block)))
+        (E found keys (map (point p) core) weighed sent) (omega arith) found_long long refl refl
 
-    first_room : d * (s.rows * blocks) ≤ length left_shares
-    first_room =
-        rw (lent.bytes.0, ← L.scheme.rows_is) (mul-le-mul_right (s.rows * blocks) L.many)
+    share_is : (party : ℕ) → share_at s s.counts.now blocks found keys (point p party) ≡ share_in p blocks found keys party
+    share_is party =
+        share_at_is s s.counts.now (scheme_own s) blocks found keys (found-bytes p left blocks left_shares lent L.many).0 (found_keys-bytes p left blocks left_shares lent L.many).0 party
 
-    first-same : take (d * (s.rows * blocks)) left_shares ≡ first_shares p blocks left_shares
-    first-same = ap (λ (b : ℕ). take (d * (b * blocks)) left_shares) L.scheme.rows_is
-
-    -- what is read are the shares of the first d parties
-    module _ (m : ℕ) (which : ((skip < d) × (m ≡ d + 1)) ⊎ ((d ≤ skip) × (m ≡ d))) where
-      read : read_from s d blocks skip (take (m * (s.rows * blocks)) shares) ≡ take (d * (s.rows * blocks)) left_shares
-      read = rw sent-all (take-without (s.rows * blocks) skip d m shares first_room (bytes_fit m which) which)
-
-      pub input : Input s ds d blocks (read_from s d blocks skip (take (m * (s.rows * blocks)) shares))
-      input =
-          record {
-            counted = record { scheme = L.scheme; count = count_of };
-            blocks_high = L.blocks_high;
-            prefixes_long = ap length read ∙ length-take-le (d * (s.rows * blocks)) left_shares first_room ∙ ap (λ (x : ℕ). d * (x * blocks)) (sym sent-all);
-          }
-
-      sent-first : Sent s ds (length core) blocks (map (point p) core) (take (d * (s.rows * blocks)) left_shares) found keys
-      sent-first =
-          sent_by s ds L.scheme core (rw core_long count_of) (apart, inside) blocks (take (d * (s.rows * blocks)) left_shares) found keys
-          (found-bytes p left blocks left_shares lent L.many) (found_keys-bytes p left blocks left_shares lent L.many)
-          (rw (all-sent p L.scheme.passed core core_long apart inside, first-same) (found_gives p left blocks left_shares lent L.many))
-
-      sent : Sent s ds d blocks (map (point p) core) (read_from s d blocks skip (take (m * (s.rows * blocks)) shares)) found keys
-      sent = rw read (rw core_long at sent-first)
-
-      -- the weights are those for the largest count
-      module _ (weights : List (List ℕ)) (weights-are : weights ≡ weights_in s ds parties skip) where
-        weighed : WeightsOf (map (point p) core) d (get_or ds 0 0) weights
-        weighed = rw weights-are (rw core_long at (largest_weights s ds L.scheme core (rw core_long count_of) (apart, inside) blocks))
-
-        found_long : length found ≡ blocks * s.block
-        found_long = (found-bytes p left blocks left_shares lent L.many).0 ∙ ap (λ (x : ℕ). blocks * x) (sym L.scheme.block_is)
-
-        -- the loops find the blocks
-        pub opened : (work : List ℕ) → length work ≡ blocks * s.block
-            → EachSent s ds d blocks weights (read_from s d blocks skip (take (m * (s.rows * blocks)) shares)) (λ B. Found s ds d blocks s.rows B work)
-            → work ≡ found_in s ds parties blocks skip shares
-        opened work long E =
-            found_all s ds d blocks s.rows 0 (blocks * s.block) found work
-            (rw (← sent-all) (reached_all (count_in input.counted) 0 (blocks * s.block)))
-            (E found keys (map (point p) core) weighed sent) (omega arith) found_long long refl refl
-
-        share_is : (party : ℕ) → share_at s ds blocks found keys (point p party) ≡ share_in p blocks found keys party
-        share_is party =
-            share_at_is s ds L.scheme blocks found keys (found-bytes p left blocks left_shares lent L.many).0 (found_keys-bytes p left blocks left_shares lent L.many).0 party
-
-        -- and fill in the share of any party
-        pub refilled : (x party : ℕ) → x ≡ point p party → (chosen : List ℕ) → chosen ≡ tabulate side (value_weight weights d x) → (work out : List ℕ)
-            → work ≡ found_in s ds parties blocks skip shares
-            → FillsShare s ds d blocks chosen (read_from s d blocks skip (take (m * (s.rows * blocks)) shares)) work out
-            → out ≡ rebuilt_in s ds parties blocks skip shares party
-        unfolding rebuilt
-        refilled x party x-is chosen chosen_is work out work-is F =
-            F found keys (map (point p) core) weights x weighed chosen_is sent work-is ∙ ap (share_at s ds blocks found keys) x-is ∙ share_is party
+    -- and fill in the share of any party
+    pub refilled : (x party : ℕ) → x ≡ point p party → (chosen : List ℕ) → chosen ≡ tabulate side (value_weight weights d x) → (work out : List ℕ)
+        → work ≡ found_in s parties blocks skip shares
+        → FillsShare s s.counts.now d blocks chosen (first_in s blocks skip shares) work out
+        → out ≡ rebuilt_in s parties blocks skip shares party
+    unfolding rebuilt
+    refilled x party x-is chosen chosen_is work out work-is F =
+        F found keys (map (point p) core) weights x weighed chosen_is sent work-is ∙ ap (share_at s s.counts.now blocks found keys) x-is ∙ share_is party
 
 -- ---- the test, place by place
 
@@ -260,73 +259,73 @@ module _ (p : Parameters) (parties : List ℕ) (N : ℕ) (shares : List ℕ) (L 
   passes : ((a : ℕ) → a < length parties → same a ≡ true) → agrees p (without skip parties) N (without_piece (b * N) skip shares) ≡ true
   passes E = rw b-is (agrees-all p parties N shares L skip many (rw b-is at (all_same E)))
 
-module _ {s : Scheme} {ds parties : List ℕ} {blocks skip : ℕ} {shares : List ℕ} (L : Lending s ds parties blocks skip shares) (bytes : Each Byte shares) where
-  pub test_fails : (a : ℕ) → a < length parties → same_at s ds parties blocks skip shares a ≡ false → agrees_in s ds parties blocks skip shares ≡ false
-  test_fails = fails (parameters_of s ds) parties blocks shares (lent-all L bytes) skip s.rows L.scheme.rows_is L.many
+module _ {s : Scheme} {parties : List ℕ} {blocks skip : ℕ} {shares : List ℕ} (L : Lending s parties blocks skip shares) where
+  pub test_fails : (a : ℕ) → a < length parties → same_at s parties blocks skip shares a ≡ false → agrees_in s parties blocks skip shares ≡ false
+  test_fails = fails (parameters_of s) parties blocks shares (lent-all L) skip s.rows s.accepted.rows_is L.many
 
   pub test-first : (m : ℕ) → ((skip < s.n - s.r) × (m ≡ s.n - s.r + 1)) ⊎ ((s.n - s.r ≤ skip) × (m ≡ s.n - s.r))
-      → (a : ℕ) → a < m → same_at s ds parties blocks skip shares a ≡ true
+      → (a : ℕ) → a < m → same_at s parties blocks skip shares a ≡ true
   test-first m which a h =
-      first_same_again (parameters_of s ds) parties blocks shares (lent-all L bytes) skip s.rows L.scheme.rows_is L.many a m which h (ℕ_discrete a skip)
+      first_same_again (parameters_of s) parties blocks shares (lent-all L) skip s.rows s.accepted.rows_is L.many a m which h (ℕ_discrete a skip)
 
-  pub test_passes : ((a : ℕ) → a < length parties → same_at s ds parties blocks skip shares a ≡ true) → agrees_in s ds parties blocks skip shares ≡ true
-  test_passes = passes (parameters_of s ds) parties blocks shares (lent-all L bytes) skip s.rows L.scheme.rows_is L.many
+  pub test_passes : ((a : ℕ) → a < length parties → same_at s parties blocks skip shares a ≡ true) → agrees_in s parties blocks skip shares ≡ true
+  test_passes = passes (parameters_of s) parties blocks shares (lent-all L) skip s.rows s.accepted.rows_is L.many
 
 -- ---- whom a disagreement names
 
-module _ {s : Scheme} {ds parties : List ℕ} {blocks : ℕ} {shares : List ℕ} (L : Lending s ds parties blocks (length parties) shares) where
+module _ {s : Scheme} {parties : List ℕ} {blocks skip : ℕ} {shares : List ℕ} (L : Lending s parties blocks skip shares) where
   abbrev test : ℕ → Bool
-  test = agrees_without (parameters_of s ds) parties blocks shares
+  test = agrees_without (parameters_of s) parties blocks shares
 
-  pub named_few : length parties < s.n - s.r + 2 → 0 ≡ named (parameters_of s ds) parties blocks shares
-  named_few h = sym (names_none (parameters_of s ds) parties blocks shares h)
+  pub named_few : length parties < s.n - s.r + 2 → 0 ≡ named (parameters_of s) parties blocks shares
+  named_few h = sym (names_none (parameters_of s) parties blocks shares h)
 
   -- without one of them enough are left
-  pub lending_without : s.n - s.r + 1 ≤ length parties → (i : ℕ) → i < length parties → Lending s ds parties blocks i shares
+  pub lending_without : s.n - s.r + 1 ≤ length parties → (i : ℕ) → i < length parties → Lending s parties blocks i shares
   lending_without many i h =
       record {
-        scheme = L.scheme;
         passed = L.passed;
         blocks_high = L.blocks_high;
         shares_long = L.shares_long;
+        bytes = L.bytes;
         many = omega (arith, length_without parties i h);
       }
 
-  tested : (i : ℕ) (t : Bool) → t ≡ agrees_in s ds parties blocks i shares → test i ≡ t
+  tested : (i : ℕ) (t : Bool) → t ≡ agrees_in s parties blocks i shares → test i ≡ t
   tested i t e =
-      sym (e ∙ ap (λ (b : ℕ). agrees (parameters_of s ds) (without i parties) blocks (without_piece (b * blocks) i shares)) L.scheme.rows_is)
+      sym (e ∙ ap (λ (b : ℕ). agrees (parameters_of s) (without i parties) blocks (without_piece (b * blocks) i shares)) s.accepted.rows_is)
 
   -- the search from place i on
   module _ (i : ℕ) (reached : first_from test (length parties - i) i ≡ first_from test (length parties) 0) where
-    pub named-next : i < length parties → (t : Bool) → t ≡ agrees_in s ds parties blocks i shares → t ≡ false
+    pub named-next : i < length parties → (t : Bool) → t ≡ agrees_in s parties blocks i shares → t ≡ false
         → first_from test (length parties - (i + 1)) (i + 1) ≡ first_from test (length parties) 0
     named-next h t e is = sym (first_next test (length parties) i h (tested i t e ∙ is)) ∙ reached
 
     -- what it has found is named only where two more than enough are lent
     module _ (many : s.n - s.r + 2 ≤ length parties) where
-      named-at : named (parameters_of s ds) parties blocks shares ≡ get_or parties (first_from test (length parties) 0) 0
+      named-at : named (parameters_of s) parties blocks shares ≡ get_or parties (first_from test (length parties) 0) 0
       unfolding named
       named-at = rw (le-ltb (length parties) (s.n - s.r + 2) many)
 
-      pub named_here : i < length parties → (t : Bool) → t ≡ agrees_in s ds parties blocks i shares → t ≡ true → get_or parties i 0 ≡ named (parameters_of s ds) parties blocks shares
+      pub named_here : i < length parties → (t : Bool) → t ≡ agrees_in s parties blocks i shares → t ≡ true → get_or parties i 0 ≡ named (parameters_of s) parties blocks shares
       named_here h t e is =
           sym (named-at ∙ ap (λ (x : ℕ). get_or parties x 0) (sym reached ∙ first_here test (length parties) i h (tested i t e ∙ is)))
 
-      pub named_none : length parties ≤ i → 0 ≡ named (parameters_of s ds) parties blocks shares
+      pub named_none : length parties ≤ i → 0 ≡ named (parameters_of s) parties blocks shares
       named_none h =
           sym (named-at ∙ ap (λ (x : ℕ). get_or parties x 0) (sym reached ∙ first_end test (length parties) i h) ∙ get_or-eq_default parties 0 h)
 
 -- ---- nothing is left out
 
-module _ {s : Scheme} {ds parties : List ℕ} {blocks : ℕ} {shares : List ℕ} (L : Lending s ds parties blocks (length parties) shares) where
-  all_left : without (length parties) parties ≡ parties
-  all_left = without_past parties (length parties) (le_of_eq refl)
+module _ {s : Scheme} {parties : List ℕ} {blocks skip : ℕ} {shares : List ℕ} (L : Lending s parties blocks skip shares) (whole : skip ≡ length parties) where
+  all_left : without skip parties ≡ parties
+  all_left = without_past parties skip (le_of_eq (sym whole))
 
-  all_shares_left : without_piece (s.rows * blocks) (length parties) shares ≡ shares
-  all_shares_left = without_none (s.rows * blocks) (length parties) shares L.shares_long
+  all_shares_left : without_piece (s.rows * blocks) skip shares ≡ shares
+  all_shares_left = rw whole (without_none (s.rows * blocks) (length parties) shares L.shares_long)
 
-  pub agrees_whole : agrees_in s ds parties blocks (length parties) shares ≡ agrees (parameters_of s ds) parties blocks shares
-  agrees_whole = ap₂ (λ (l m : List ℕ). agrees (parameters_of s ds) l blocks m) all_left all_shares_left
+  pub agrees_whole : agrees_in s parties blocks skip shares ≡ agrees (parameters_of s) parties blocks shares
+  agrees_whole = ap₂ (λ (l m : List ℕ). agrees (parameters_of s) l blocks m) all_left all_shares_left
 
-  pub rebuilt_whole : (party : ℕ) → rebuilt_in s ds parties blocks (length parties) shares party ≡ rebuilt (parameters_of s ds) parties blocks shares party
-  rebuilt_whole party = ap₂ (λ (l m : List ℕ). rebuilt (parameters_of s ds) l blocks m party) all_left all_shares_left
+  pub rebuilt_whole : (party : ℕ) → rebuilt_in s parties blocks skip shares party ≡ rebuilt (parameters_of s) parties blocks shares party
+  rebuilt_whole party = ap₂ (λ (l m : List ℕ). rebuilt (parameters_of s) l blocks m party) all_left all_shares_left

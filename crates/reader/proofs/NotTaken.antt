@@ -16,7 +16,7 @@ use Rattle.gf256.specs.Byte.{◌⊗◌}
 use Rattle.interpolation.specs.Polynomial.{eval, sum_to}
 use Rattle.interpolation.specs.Interpolation.{side}
 use Rattle.interpolation.proofs.Laws.{opening_solved}
-use Rattle.scheme.specs.declared.Scheme.{Scheme}
+use Rattle.scheme.specs.declared.accepted.Scheme.{Scheme}
 use Rattle.rows.specs.Sources.{RowOrigins}
 use Rattle.order.specs.ReadingOrder.{row_in_turn}
 use Rattle.reader.specs.Decoding.{WeightsOf, HasPlaces, RowOf, sent_rows, Input, Sent, Found}

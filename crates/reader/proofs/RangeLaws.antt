@@ -10,11 +10,10 @@ use native.Mathlib.Omega.{arith}
 use lib.ListN.{length, take, drop}
 use borrow.Author.Tests.{ne_eqb, not-false, ltb-false, eqb-true}
 use Rattle.lists.specs.Each.{Each, Byte, occurs}
-use Rattle.scheme.specs.declared.Scheme.{Scheme}
+use Rattle.scheme.specs.declared.accepted.Scheme.{Scheme}
 use Rattle.scheme.specs.Limits.{max_message}
-use Rattle.scheme.specs.Facts.{SchemeIs}
 use Rattle.scheme.specs.Readers.{readers_refused}
-use Rattle.scheme.proofs.Laws.{first_none, first_if}
+use Rattle.scheme.proofs.Laws.{scheme_own, first_none, first_if}
 use Rattle.family.proofs.Message.{blocks_cover}
 use Rattle.staircase.specs.Parameters.{Parameters, AcceptedScheme, block, rows, blocks_of}
 use Rattle.staircase.specs.Exactness.{prefix_bytes, opened_string}
@@ -30,17 +29,23 @@ use Rattle.reader.proofs.Reading.{opened_long, opened_sent, opened_weights}
 use Rattle.reader.proofs.RangeAnswers.{range_cut}
 use Rattle.reader.proofs.NotTaken.{turns_same}
 
--- ---- what the check answers for accepted parameters
-
-abbrev scheme_of : Parameters → Scheme
-scheme_of p = record { n = p.n; r = p.r; z = p.z; block = block p; rows = rows p }
+-- ---- what the check answers for accepted parameters, wherever their counts stand
 
 module _ (p : Parameters) (good : AcceptedScheme p) where
-  scheme_is : SchemeIs (scheme_of p) p.n p.r p.z p.counts
-  scheme_is = record { passed = good; n_is = refl; r_is = refl; z_is = refl; block_is = refl; rows_is = refl }
+  abbrev scheme_of : Scheme
+  scheme_of =
+      record {
+        n = p.n;
+        r = p.r;
+        z = p.z;
+        counts = record { ref_ptr = (0, 0); now = p.counts };
+        block = block p;
+        rows = rows p;
+        accepted = record { passed = good; block_is = refl; rows_is = refl };
+      }
 
-  counted_by : (d : ℕ) → occurs d p.counts ≡ true → Counted (scheme_of p) p.counts d
-  counted_by d h = record { scheme = scheme_is; count = h }
+  counted_by : (d : ℕ) → occurs d p.counts ≡ true → Counted scheme_of p.counts d
+  counted_by d h = record { scheme = scheme_own scheme_of; count = h }
 
 -- ---- the count
 
@@ -97,7 +102,7 @@ module _ (p : Parameters) (message start long : ℕ) (parties prefixes prefixes'
     (bytes : Each Byte prefixes) (bytes' : Each Byte prefixes') (as_long : length prefixes ≡ length prefixes')
     (same : SameInTurns p (length parties) (blocks_of p message) (taken_rows p (length parties) start long) prefixes prefixes') where
   abbrev s : Scheme
-  s = scheme_of p
+  s = scheme_of p G.good
 
   abbrev d : ℕ
   d = length parties
@@ -122,7 +127,7 @@ module _ (p : Parameters) (message start long : ℕ) (parties prefixes prefixes'
   input sent long =
       record {
         counted = counted;
-        blocks_high = blocks_few p s (scheme_is p G.good) message N refl G.short;
+        blocks_high = blocks_few p s (scheme_own s) message N refl G.short;
         prefixes_long = long;
       }
 
@@ -133,14 +138,14 @@ module _ (p : Parameters) (message start long : ℕ) (parties prefixes prefixes'
   -- the opened blocks of the one and of the other prefixes have the same bytes at all origins of the rows taken
   found : Found s p.counts d N (taken_rows p d start long) (opened_string p parties N prefixes') (opened_string p parties N prefixes)
   found =
-      let is = scheme_is p G.good in
+      let is = scheme_own s in
       let X = opened_sent s p.counts is parties G.count G.passed N prefixes sent_long bytes in
       let X' = opened_sent s p.counts is parties G.count G.passed N prefixes' sent_long' bytes' in
       turns_same (input prefixes sent_long) (input prefixes' sent_long') (opened_weights s p.counts is parties G.count G.passed N) X.1 X'.1
       (taken_rows p d start long) earliest.within same
 
   whole : (sent : List ℕ) → length (opened_string p parties N sent) ≡ N * block p
-  whole = opened_long s p.counts (scheme_is p G.good) parties G.count G.passed N
+  whole = opened_long s p.counts (scheme_own s) parties G.count G.passed N
 
   range_same : take long (drop start (opened_string p parties N prefixes)) ≡ take long (drop start (opened_string p parties N prefixes'))
   range_same =

@@ -12,7 +12,7 @@ use Rattle.lists.proofs.Each.{get_or-map, true-distinct}
 use Rattle.interpolation.specs.Interpolation.{side}
 use Rattle.interpolation.specs.Opening.{opening_table}
 use Rattle.interpolation.proofs.Laws.{opening_parties, opening_known}
-use Rattle.scheme.specs.declared.Scheme.{Scheme}
+use Rattle.scheme.specs.declared.accepted.Scheme.{Scheme}
 use Rattle.scheme.specs.Facts.{SchemeIs}
 use Rattle.scheme.specs.Check.{rows_of_count}
 use Rattle.family.specs.Message.{Bytes}

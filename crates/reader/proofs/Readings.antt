@@ -1,10 +1,10 @@
 -- The steps of the loops that fill the buffer of columns: those of the known coefficients, and those of the parties' bytes.
 -- Assumes nothing.
-use mathlib.Core.Path.{◌≡◌, refl, ap, ◌∙◌}
+use mathlib.Core.Path.{◌≡◌, ap, ◌∙◌}
 use mathlib.Core.List.{List, ◌++◌}
 use mathlib.Core.Logic.{inr, ⊎_elim}
 use Prim.Native.Nat.{ℕ, ◌+◌, ◌-◌, ◌*◌, ◌≤◌, ◌<◌}
-use native.Mathlib.Nat.{not-suc-le-zero, add-sub_cancel_left}
+use native.Mathlib.Nat.{add-sub_cancel_left}
 use native.Mathlib.Omega.{arith}
 use lib.ListN.{length, get_or, take, drop}
 use Rattle.lists.proofs.Parts.{mid_length, mid_before, mid_in, mid_outside}
@@ -18,9 +18,6 @@ use Rattle.reader.specs.Decoding.{KnownColumns, SentColumns}
 -- ---- the known coefficients
 
 module _ (work places : List ℕ) (d t m : ℕ) where
-  pub known_none : (o : List ℕ) → length o ≡ side * lanes → KnownColumns work places d d t m o
-  known_none o long = record { long = long; known = λ e k a b. absurd (omega arith) }
-
   -- column e was lent and came back as y
   pub known_more : (e : ℕ) (o y : List ℕ) → KnownColumns work places d e t m o → e < side → length y ≡ lanes → y ≡ strided work (t * m + get_or places e 0) m
       → KnownColumns work places d (e + 1) t m (take (e * lanes) o ++ (y ++ drop (e * lanes + lanes - e * lanes) (drop (e * lanes) o)))
@@ -40,9 +37,6 @@ module _ (work places : List ℕ) (d t m : ℕ) where
 -- ---- the parties' bytes
 
 module _ (prefixes : List ℕ) (prefix q many : ℕ) (before : List ℕ) where
-  pub sent_none : length before ≡ side * lanes → SentColumns prefixes prefix q many 0 before before
-  sent_none long = record { long = long; sent = λ a k h. absurd (not-suc-le-zero h); still = λ i h. refl }
-
   -- the first bytes of column a were lent and came back as y, which are those of party a
   pub sent_more : (a : ℕ) (o y : List ℕ) → SentColumns prefixes prefix q many a before o → a < side → many ≤ lanes
       → length y ≡ many → ((k : ℕ) → k < many → get_or y k 0 ≡ get_or prefixes (a * prefix + q + k) 0)

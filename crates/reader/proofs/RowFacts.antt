@@ -5,7 +5,7 @@ use mathlib.Core.List.{List}
 use Prim.Native.Nat.{ℕ, ◌*◌, ◌<◌, zero-le}
 use native.Mathlib.Nat.{le_of_lt}
 use native.Mathlib.Omega.{arith}
-use lib.ListN.{length, get_or}
+use lib.ListN.{length, get_or, replicate, length-replicate}
 use borrow.Author.Tests.{le-ltb}
 use Rattle.lists.specs.Each.{Byte}
 use Rattle.lists.specs.Table.{tabulate}
@@ -13,7 +13,7 @@ use Rattle.lists.proofs.Each.{each_tabulate}
 use Rattle.lists.proofs.Joined.{row_room}
 use Rattle.lists.proofs.Table.{length-tabulate, get_or-tabulate}
 use Rattle.interpolation.specs.Interpolation.{side}
-use Rattle.scheme.specs.declared.Scheme.{Scheme}
+use Rattle.scheme.specs.declared.accepted.Scheme.{Scheme}
 use Rattle.staircase.specs.Coefficients.{group_of, count_of, coefficient_at}
 use Rattle.staircase.proofs.Construction.{coefficient_at-byte}
 use Rattle.staircase.proofs.Groups.{counts_fall}
@@ -45,6 +45,10 @@ module _ {s : Scheme} {ds : List ℕ} {d skip blocks : ℕ} {prefixes : List ℕ
   -- the origins of its coefficients, written over 16 places
   pub row-places : (places : List ℕ) → length places ≡ side → RowOrigins s.block s.z ds j top (origins_over s.block s.z ds j places)
   row-places places long = row_origins s ds C.scheme j row_below places long
+
+  -- written over zeros
+  pub row-written : (places : List ℕ) → places ≡ origins_over s.block s.z ds j (replicate side 0) → RowOrigins s.block s.z ds j top places
+  row-written places is = rw is (row-places (replicate side 0) (length-replicate {A = ℕ} side 0))
 
   -- the sizes of what is read
   abbrev pub sizes : Sizes

@@ -4,7 +4,7 @@
 use mathlib.Core.Path.{◌≡◌, refl, sym, ap, ◌∙◌}
 use mathlib.Core.List.{List, [], ◌++◌}
 use mathlib.Core.Logic.{inl, inr, ⊎_elim}
-use Prim.Native.Nat.{ℕ, ◌+◌, ◌-◌, ◌*◌, ◌≤◌, ◌<◌}
+use Prim.Native.Nat.{ℕ, ◌+◌, ◌-◌, ◌*◌, ◌≤◌, ◌<◌, zero-le}
 use native.Mathlib.Nat.{not-suc-le-zero, add-sub_cancel_left}
 use native.Mathlib.Omega.{arith}
 use lib.ListN.{length, get_or, take, drop}
@@ -19,7 +19,9 @@ use Rattle.interpolation.specs.Opening.{value_weight}
 use Rattle.interpolation.proofs.Laws.{value_solved, chosen_party, chosen-known}
 use Rattle.reader.specs.declared.decoding.Sizes.{Sizes}
 use Rattle.reader.specs.Decoding.{combined, SolvesBatch, KnownColumns, SentColumns, SizesFit, RowFits, WeightsOf, RowOf, HasPlaces}
+use Rattle.reader.specs.declared.row.Row.{Row}
 use Rattle.reader.specs.Filling.{ChosenFor, FirstColumn, RowFilled}
+use Rattle.reader.specs.Rows.{read_in, FillsBlocks}
 use Rattle.reader.proofs.RowStep.{combined-at, sent-entry, known-entry}
 
 chosen_at : (weights table : List (List ℕ)) (d x : ℕ) (chosen : List ℕ) → ChosenFor weights d x chosen → FirstColumn chosen table → (i : ℕ) → i < side
@@ -58,11 +60,6 @@ pub filled_none : (x q : ℕ) (row : ℕ → List ℕ) (o : List ℕ) → RowFil
 filled_none x q row o =
     record { long = refl; values = λ t h. absurd (not-suc-le-zero h); before-q = λ i h. refl; after-q = λ i h. refl }
 
--- places `at` to at + many − 1 were lent and came back as y, so the list is as long as before
-pub lent_length : (at many : ℕ) (o y : List ℕ) → at + many ≤ length o → length y ≡ many
-    → length (take at o ++ (y ++ drop (at + many - at) (drop at o))) ≡ length o
-lent_length at many o y room long = rw add-sub_cancel_left (mid_length at many o y room long)
-
 -- what was lent came back with the sums of degree 0: one place a block, from the first on
 pub sums_at : (columns : List ℕ) (table : List (List ℕ)) (first : List ℕ) (top many : ℕ) (y y' : List ℕ) → get_or first 0 0 ≡ 0
     → SolvesBatch columns table first 0 1 top 0 1 many y y' → (k : ℕ) → k < many → get_or y' k 0 ≡ get_or (combined columns table 0 top) k 0
@@ -96,3 +93,22 @@ filled_more {x} {q} {t} {many} {row} {before} {o} y F inside long is =
       before-q = λ i h. mid_outside (q + t) many o y room 0 i long (inl (omega arith)) ∙ F.before-q i h;
       after-q = λ i h. mid_outside (q + t) many o y room 0 i long (inr (omega arith)) ∙ F.after-q i (omega arith);
     })
+
+-- ---- a row as the code has it
+
+pub fills_none : (row : Row) (table : List (List ℕ)) (work o : List ℕ) → FillsBlocks row table work 0 o o
+fills_none row table work o B points chosen weights x W C T R H = filled_none x row.q R.row o
+
+-- one batch more: the places of its blocks were lent as y, and came back as y'
+module _ (row : Row) (t many : ℕ) (few : many ≤ lanes) (within : t + many ≤ row.sizes.blocks) {work before columns : List ℕ}
+    (K : KnownColumns work row.places.now row.sizes.d row.top t row.sizes.block before)
+    (G : SentColumns (read_in row) row.sizes.prefix (row.q + t) many row.sizes.d before columns) where
+  pub fills_more : (table : List (List ℕ)) (first : List ℕ) (y y' o o' : List ℕ) → get_or first 0 0 ≡ 0
+      → SolvesBatch columns table first 0 1 row.top 0 1 many y y' → length y' ≡ many → row.q + row.sizes.blocks ≤ length o
+      → FillsBlocks row table work t o o'
+      → FillsBlocks row table work (t + many) o (take (row.q + t) o' ++ (y' ++ drop (row.q + t + many - (row.q + t)) (drop (row.q + t) o')))
+  fills_more table first y y' o o' zero S long room F B points chosen weights x W C T R H =
+      filled_more y' (F B points chosen weights x W C T R H) (omega arith) long
+      (λ i h.
+      sums_at columns table first row.top many y y' zero S i h
+      ∙ value_step table x row.sizes_fit row.row_fits few within K G W C T R (λ u e low high. H u e zero-le (omega arith)) i h)

@@ -5,13 +5,13 @@ use mathlib.Core.Path.{◌≡◌, refl, sym, ap, ◌∙◌}
 use mathlib.Core.List.{List, ◌++◌}
 use mathlib.Core.Logic.{⊎_elim}
 use Prim.Native.Nat.{ℕ, ◌+◌, ◌-◌, ◌*◌, ◌/◌, ◌%◌, ◌≤◌, ◌<◌, zero-le}
-use native.Mathlib.Nat.{zero-mul, mul-zero, zero-add, add-mul, mul-add, mul-le-mul_left, mul-le-mul_right, div-add-mod'}
+use native.Mathlib.Nat.{zero-add, add-mul, mul-add, mul-le-mul_left, mul-le-mul_right, div-add-mod'}
 use native.Mathlib.Omega.{arith}
 use lib.ListN.{length, get_or, take, drop, length-append, length-drop, get_or-append}
 use lib.Seq.{ext_get_or, get_or-take, get_or-drop, length-take-le}
 use Rattle.lists.proofs.Joined.{in-grid}
 use Rattle.lists.proofs.Tests.{lt_or_le}
-use Rattle.scheme.specs.declared.Scheme.{Scheme}
+use Rattle.scheme.specs.declared.accepted.Scheme.{Scheme}
 use Rattle.staircase.specs.Coefficients.{count_of, origin}
 use Rattle.rows.specs.Sources.{RowOrigins}
 use Rattle.order.specs.ReadingOrder.{row_in_turn}
@@ -23,9 +23,6 @@ use Rattle.reader.proofs.CountedScheme.{count_in}
 use Rattle.reader.proofs.RowFacts.{RowAt, top, row_weights, row-values}
 
 -- ---- the bytes counted: those of d parties and `blocks` blocks in each turn passed
-
-pub counted_none : (d blocks : ℕ) → 0 ≡ d * (0 * blocks)
-counted_none d blocks = rw (zero-mul, mul-zero)
 
 pub counted_more : (d blocks used u P most : ℕ) → u < P → used ≡ d * (u * blocks) → d * (P * blocks) ≤ most
     → (used + d * blocks ≡ d * ((u + 1) * blocks)) × (used + d * blocks ≤ most)

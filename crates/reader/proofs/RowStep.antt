@@ -3,7 +3,7 @@
 -- Assumes nothing.
 use mathlib.Core.Path.{◌≡◌, sym, ap, ◌∙◌}
 use mathlib.Core.List.{List, []}
-use Prim.Native.Nat.{ℕ, ◌+◌, ◌*◌, ◌≤◌, ◌<◌}
+use Prim.Native.Nat.{ℕ, ◌+◌, ◌*◌, ◌≤◌, ◌<◌, zero-le}
 use native.Mathlib.Omega.{arith}
 use lib.ListN.{length, get_or}
 use Rattle.lists.proofs.Joined.{place_on}
@@ -13,7 +13,16 @@ use Rattle.gf256.specs.Lanes.{lanes}
 use Rattle.interpolation.specs.Polynomial.{eval, sum_to}
 use Rattle.interpolation.proofs.Laws.{opening_solved}
 use Rattle.reader.specs.declared.decoding.Sizes.{Sizes}
-use Rattle.reader.specs.Decoding.{combined, KnownColumns, SentColumns, SizesFit, RowFits, WeightsOf, RowOf, HasPlaces}
+use Rattle.reader.specs.Decoding.{combined, KnownColumns, SentColumns, SizesFit, RowFits, WeightsOf, RowOf, HasPlaces, Solves}
+use Rattle.reader.proofs.Writes.{solved_batch}
+
+-- the blocks after n, when those before n are solved
+pub solves_more : (sizes : Sizes) (top q : ℕ) (places : List ℕ) (weights : List (List ℕ)) (prefixes : List ℕ) (n k : ℕ) (w w' w'' : List ℕ) → n ≤ k
+    → Solves sizes top q places weights prefixes 0 n w w' → Solves sizes top q places weights prefixes n k w' w''
+    → Solves sizes top q places weights prefixes 0 k w w''
+solves_more sizes top q places weights prefixes n k w w' w'' h X Y B points W R H =
+    let S = X B points W R (λ t e a b low high. H t e a (omega arith) low high) in
+    solved_batch k S (Y B points W R (λ t e a b low high. S.still _ (H t e zero-le b low high)))
 
 pub combined-at : (columns : List ℕ) (weights : List (List ℕ)) (e n k : ℕ) → k < lanes
     → get_or (combined columns weights e n) k 0 ≡ sum_to n (λ i. get_or (get_or weights i []) e 0 ⊗ get_or columns (i * lanes + k) 0)

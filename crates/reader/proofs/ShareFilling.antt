@@ -4,14 +4,14 @@ use mathlib.Core.Path.{◌≡◌, ap, ◌∙◌}
 use mathlib.Core.List.{List}
 use mathlib.Core.Logic.{⊎_elim}
 use Prim.Native.Nat.{ℕ, ◌+◌, ◌-◌, ◌*◌, ◌≤◌, ◌<◌}
-use native.Mathlib.Nat.{zero-mul, add-mul}
+use native.Mathlib.Nat.{add-mul}
 use native.Mathlib.Omega.{arith}
 use lib.ListN.{length, get_or}
 use Rattle.lists.proofs.Joined.{row_of, place_of}
 use Rattle.lists.proofs.Table.{tabulate_is}
 use Rattle.lists.proofs.Tests.{lt_or_le}
 use Rattle.interpolation.specs.Polynomial.{eval}
-use Rattle.scheme.specs.declared.Scheme.{Scheme}
+use Rattle.scheme.specs.declared.accepted.Scheme.{Scheme}
 use Rattle.staircase.specs.Coefficients.{share_byte}
 use Rattle.rows.specs.Sources.{RowOrigins}
 use Rattle.reader.specs.declared.decoding.Sizes.{Sizes}
@@ -25,9 +25,6 @@ FillsRows s ds d blocks chosen prefixes work n out =
     (B K points : List ℕ) (weights : List (List ℕ)) (x : ℕ) → WeightsOf points d (get_or ds 0 0) weights → ChosenFor weights d x chosen
     → Sent s ds d blocks points prefixes B K → work ≡ B
     → (i : ℕ) → i < n * blocks → get_or out i 0 ≡ share_byte s.block s.rows s.z ds B K blocks x i
-
-pub rows_none : (s : Scheme) (ds : List ℕ) (d blocks : ℕ) (chosen prefixes work out : List ℕ) → FillsRows s ds d blocks chosen prefixes work 0 out
-rows_none s ds d blocks chosen prefixes work out B K points weights x W C X same i h = absurd (omega (arith, zero-mul blocks))
 
 -- row j of the share
 module _ {s : Scheme} {ds : List ℕ} {d skip blocks : ℕ} (lent : List ℕ) {j : ℕ} (R : RowAt s ds d skip blocks (read_from s d blocks skip lent) j)

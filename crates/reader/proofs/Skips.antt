@@ -9,7 +9,7 @@ use lib.ListN.{get_or, take, drop}
 use lib.Seq.{get_or-take, get_or-drop}
 use Rattle.lists.specs.Without.{without_piece, skipped}
 use Rattle.lists.proofs.Skipped.{without_none, get_or-without_piece}
-use Rattle.scheme.specs.declared.Scheme.{Scheme}
+use Rattle.scheme.specs.declared.accepted.Scheme.{Scheme}
 use Rattle.reader.specs.Decoding.{sent_rows, read_from, Input, Sent}
 
 -- where the place passed over is d, all are read

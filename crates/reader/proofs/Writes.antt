@@ -1,60 +1,15 @@
--- Writes of bytes of B into the work buffer: one after another, a column, the degrees of a batch of blocks, and batches one after another.
--- What is written is a byte of B, so a place that has B's byte keeps it, and nothing about distinct places is needed.
+-- Writes of bytes of B into the work buffer: the degrees of a batch of blocks, and batches one after another.
 -- Assumes nothing.
-use mathlib.Core.Path.{◌≡◌, refl, sym, ap, ap₂, ◌∙◌}
+use mathlib.Core.Path.{◌≡◌, refl, ap₂, ◌∙◌}
 use mathlib.Core.List.{List}
-use mathlib.Core.Logic.{◌⊎◌, inl, inr, ⊎_elim}
+use mathlib.Core.Logic.{⊎_elim}
 use Prim.Native.Nat.{ℕ, ◌+◌, ◌-◌, ◌*◌, ◌≤◌, ◌<◌}
 use native.Mathlib.Nat.{not-suc-le-zero}
-use native.Mathlib.Decide.{ℕ_discrete}
 use native.Mathlib.Omega.{arith}
-use lib.ListN.{length, get_or, set, length-set}
-use lib.Seq.{get_or-set_same, get_or-set_other}
+use lib.ListN.{get_or}
 use Rattle.lists.proofs.Joined.{place_on}
 use Rattle.lists.proofs.Tests.{lt_or_le}
-use Rattle.reader.specs.Decoding.{WroteFrom, Scattered, Solved}
-
--- a byte of B is written
-set_kept : (B w : List ℕ) (i v : ℕ) → i < length w → v ≡ get_or B i 0
-    → (k : ℕ) → (k ≡ i) ⊎ (get_or w k 0 ≡ get_or B k 0) → get_or (set w i v) k 0 ≡ get_or B k 0
-set_kept B w i v h e k = ⊎_elim here (other (ℕ_discrete k i))
-  where
-    here : k ≡ i → get_or (set w i v) k 0 ≡ get_or B k 0
-    here s = rw (s, get_or-set_same w i v 0 h) e
-
-    other : Dec (k ≡ i) → get_or w k 0 ≡ get_or B k 0 → get_or (set w i v) k 0 ≡ get_or B k 0
-    other (yes s) o = here s
-    other (no n) o = get_or-set_other w i k v 0 n ∙ o
-
--- ---- a column
-
-wrote_none : (B w : List ℕ) (place : ℕ → ℕ) → WroteFrom B w w 0 place
-wrote_none B w place = record { long = refl; still = λ k h. h; new = λ k h. absurd (not-suc-le-zero h) }
-
-wrote_more : {B w w' : List ℕ} {n : ℕ} {place : ℕ → ℕ} (i v : ℕ) → WroteFrom B w w' n place → i ≡ place n → i < length w → v ≡ get_or B (place n) 0
-    → WroteFrom B w (set w' i v) (n + 1) place
-wrote_more {B} {w} {w'} {n} {place} i v W e h q =
-    let room : i < length w' = rw W.long h in
-    let is : v ≡ get_or B i 0 = rw e q in
-    record {
-      long = length-set w' i v ∙ W.long;
-      still = λ k o. set_kept B w' i v room is k (inr (W.still k o));
-      new = λ k l.
-          ⊎_elim (λ (b : k < n). set_kept B w' i v room is (place k) (inr (W.new k b)))
-          (λ (b : n ≤ k).
-          let s : k ≡ n = omega arith in
-          set_kept B w' i v room is (place k) (inl (ap place s ∙ sym e)))
-          (lt_or_le k n);
-    }
-
-pub scattered_none : (column : List ℕ) (at step many : ℕ) (w : List ℕ) → Scattered column at step many 0 w w
-scattered_none column at step many w B h = wrote_none B w (λ k. at + k * step)
-
-pub scattered_more : (column : List ℕ) (at step many n place : ℕ) (w w' : List ℕ) → n < many → place ≡ at + n * step → place < length w
-    → Scattered column at step many n w w' → Scattered column at step many (n + 1) w (set w' place (get_or column n 0))
-scattered_more column at step many n place w w' l e h S B c = wrote_more place (get_or column n 0) (S B c) e h (c n l)
-
--- ---- the degrees of a batch of blocks, and batches one after another
+use Rattle.reader.specs.Decoding.{WroteFrom, Solved}
 
 pub solved_none : (s n m z : ℕ) (places B w : List ℕ) → Solved s n m z z places B w w
 solved_none s n m z places B w = record { long = refl; still = λ k h. h; new = λ t e a b p q. absurd (omega arith) }

@@ -10,7 +10,7 @@ use Rattle.gf256.specs.Lanes.{lanes}
 use Rattle.interpolation.specs.Polynomial.{eval, sum_to}
 use Rattle.interpolation.specs.Interpolation.{side, basis}
 use Rattle.interpolation.specs.Opening.{remainder}
-use Rattle.scheme.specs.declared.Scheme.{Scheme}
+use Rattle.scheme.specs.declared.accepted.Scheme.{Scheme}
 use Rattle.scheme.specs.Facts.{SchemeIs}
 use Rattle.scheme.specs.Limits.{max_block, max_blocks}
 use Rattle.scheme.specs.Check.{rows_of_count}

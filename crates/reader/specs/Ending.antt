@@ -1,14 +1,12 @@
 -- How the reader's code knows where a message ends, and what it writes by that; what is lent for an opening, whole or of a range.
 -- Assumes nothing.
-use Rattle.std.specs.Prelude.{◌≡◌, true, false, List, ℕ, ◌+◌, ◌-◌, ◌*◌, ◌≤◌, ◌<◌, length, get_or, take, drop}
-use Rattle.scheme.specs.declared.Scheme.{Scheme}
+use Rattle.std.specs.Prelude.{◌≡◌, true, false, Option, Some, None, List, ℕ, ◌+◌, ◌-◌, ◌*◌, ◌≤◌, ◌<◌, length, get_or, take, drop}
+use Rattle.scheme.specs.declared.accepted.Scheme.{Scheme}
 use Rattle.scheme.specs.Limits.{max_block, max_message, max_blocks}
 use Rattle.family.specs.Padding.{last_nonzero, end_place, end_refused}
 use Rattle.order.specs.RowsTaken.{Reached}
 use Rattle.reader.specs.Decoding.{sent_rows, sent_bytes}
 use Rattle.reader.specs.declared.ending.Last.{Last}
-use Rattle.reader.specs.declared.ending.End.{End}
-use Rattle.reader.specs.declared.ending.End.TheVariants.{At, Missing}
 use Rattle.reader.specs.declared.ending.Ending.{Ending}
 use Rattle.reader.specs.declared.ending.Ending.TheVariants.{Told, Sought}
 
@@ -17,13 +15,13 @@ pub record LastOf (bytes : List ℕ) (last : Last) : Type 0 where
   pub after_is : last.after ≡ last_nonzero bytes (length bytes)
   pub byte_is : last.byte ≡ get_or bytes (last.after - 1) 0
 
--- the end that is found in N whole blocks of m bytes; it is missing where refusal 11 applies
-abbrev pub FoundEnd : ℕ → ℕ → List ℕ → End → Type 0
-FoundEnd m N blocks (At message) = (end_refused m N blocks ≡ false) × (message ≡ end_place m N blocks)
-FoundEnd m N blocks Missing = end_refused m N blocks ≡ true
+-- the end that is found in N whole blocks of m bytes; there is none where refusal 11 applies
+abbrev pub FoundEnd : ℕ → ℕ → List ℕ → Option ℕ → Type 0
+FoundEnd m N blocks (Some message) = (end_refused m N blocks ≡ false) × (message ≡ end_place m N blocks)
+FoundEnd m N blocks None = end_refused m N blocks ≡ true
 
 -- the blocks are whole and there is one: said of every number of them
-abbrev pub EndOf : ℕ → List ℕ → End → Type 0
+abbrev pub EndOf : ℕ → List ℕ → Option ℕ → Type 0
 EndOf m blocks end = (N : ℕ) → 0 < N → length blocks ≡ N * m → FoundEnd m N blocks end
 
 -- an end can be sought where there is a block
@@ -32,17 +30,17 @@ CanSeek Told m blocks = Unit {0}
 CanSeek Sought m blocks = (0 < m) × (m ≤ length blocks)
 
 -- the end, told by the length of the output or sought
-abbrev pub EndBy : Ending → ℕ → List ℕ → ℕ → End → Type 0
-EndBy Told m blocks told end = end ≡ At told
+abbrev pub EndBy : Ending → ℕ → List ℕ → ℕ → Option ℕ → Type 0
+EndBy Told m blocks told end = end ≡ Some told
 EndBy Sought m blocks told end = EndOf m blocks end
 
 -- the output became the blocks' bytes from `start` on, or stayed where there is no end
-abbrev pub written_by : End → ℕ → List ℕ → List ℕ → List ℕ
-written_by (At message) start blocks before = take (length before) (drop start blocks)
-written_by Missing start blocks before = before
+abbrev pub written_by : Option ℕ → ℕ → List ℕ → List ℕ → List ℕ
+written_by (Some message) start blocks before = take (length before) (drop start blocks)
+written_by None start blocks before = before
 
 -- an opening: the end, and the output
-pub record OpenedBy (how : Ending) (m start : ℕ) (blocks before : List ℕ) (end : End) (after : List ℕ) : Type 0 where
+pub record OpenedBy (how : Ending) (m start : ℕ) (blocks before : List ℕ) (end : Option ℕ) (after : List ℕ) : Type 0 where
   pub end_is : EndBy how m blocks (length before) end
   pub output_is : after ≡ written_by end start blocks before
 

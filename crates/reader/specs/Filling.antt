@@ -6,7 +6,7 @@ use Rattle.lists.specs.Table.{tabulate}
 use Rattle.interpolation.specs.Polynomial.{eval}
 use Rattle.interpolation.specs.Interpolation.{side}
 use Rattle.interpolation.specs.Opening.{value_weight}
-use Rattle.scheme.specs.declared.Scheme.{Scheme}
+use Rattle.scheme.specs.declared.accepted.Scheme.{Scheme}
 use Rattle.staircase.specs.Coefficients.{share_byte}
 use Rattle.reader.specs.declared.decoding.Sizes.{Sizes}
 use Rattle.reader.specs.Decoding.{WeightsOf, RowOf, HasPlaces, Sent}

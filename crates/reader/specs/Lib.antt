@@ -5,6 +5,10 @@ pub mod Decoding
 pub mod Filling
 pub mod Rebuild
 pub mod Agreeing
+pub mod Lent
 pub mod Ending
 pub mod Opening
 pub mod ReconstructPadded
+pub mod Prefixes
+pub mod Rows
+pub mod Taking

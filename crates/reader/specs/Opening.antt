@@ -1,8 +1,8 @@
 -- The opener, whole or for a range, as the code has it: one function that goes through the refusals of a range, told which rows to take. The whole
 -- message is a range to which 15 does not apply.
 -- Assumes nothing.
-use Rattle.std.specs.Prelude.{◌≡◌, Bool, true, false, List, [], ◌∷◌, ℕ, ◌*◌, ◌≤◌, ◌<◌, length, get_or}
-use Rattle.scheme.specs.declared.Answer.{Answer}
+use Rattle.std.specs.Prelude.{◌≡◌, Bool, true, false, List, [], ◌∷◌, ℕ, ◌*◌, ◌≤◌, ◌<◌, length, get_or, Result}
+use Rattle.scheme.specs.declared.refusal.Refusal.{Refusal}
 use Rattle.scheme.specs.Outcome.{Outcome, answer, outcome}
 use Rattle.staircase.specs.Parameters.{Parameters, prefix_rows, blocks_of}
 use Rattle.order.specs.RowsTaken.{Wanted}
@@ -27,7 +27,7 @@ opened_answer rows p message start long parties prefixes out =
     answer (range_refusal p message start long parties prefixes out)
     (d * rows_by rows (prefix_rows p d) (taken_rows p d start long) * blocks_of p message ∷ [])
 
-abbrev pub OpenedCall : Take → Parameters → ℕ → ℕ → ℕ → List ℕ → List ℕ → List ℕ → Answer → List ℕ → Type 0
+abbrev pub OpenedCall : Take → Parameters → ℕ → ℕ → ℕ → List ℕ → List ℕ → List ℕ → Result ℕ Refusal → List ℕ → Type 0
 OpenedCall rows p message start long parties prefixes before a after =
     (outcome a ≡ opened_answer rows p message start long parties (length prefixes) (length before))
     × (after ≡ range_output p message start long parties prefixes before)

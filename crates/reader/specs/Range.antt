@@ -1,9 +1,9 @@
 -- The opener for a range of the message (document 02, e): its answer, and its output, that range of what the full opening writes.
 -- Assumes nothing.
-use Rattle.std.specs.Prelude.{◌≡◌, true, cond, not, List, [], ◌∷◌, ℕ, ◌+◌, ◌*◌, ◌≤◌, ◌<◌, ltb, eqb, length, get_or, take, drop}
+use Rattle.std.specs.Prelude.{◌≡◌, true, cond, not, List, [], ◌∷◌, ℕ, ◌+◌, ◌*◌, ◌≤◌, ◌<◌, ltb, eqb, length, get_or, take, drop, Result}
 use Rattle.lists.specs.Each.{occurs}
 use Rattle.scheme.specs.Limits.{max_message}
-use Rattle.scheme.specs.declared.Answer.{Answer}
+use Rattle.scheme.specs.declared.refusal.Refusal.{Refusal}
 use Rattle.scheme.specs.Outcome.{Outcome, number_if, first_of, answer, outcome}
 use Rattle.scheme.specs.Check.{refusal}
 use Rattle.scheme.specs.Readers.{readers_refused}
@@ -45,7 +45,7 @@ range_output p message start long parties prefixes before =
     before
 
 -- a call of it, as its contract has it: what it answers, and what an output that held `before` holds after it
-abbrev pub RangeCall : Parameters → ℕ → ℕ → ℕ → List ℕ → List ℕ → List ℕ → Answer → List ℕ → Type 0
+abbrev pub RangeCall : Parameters → ℕ → ℕ → ℕ → List ℕ → List ℕ → List ℕ → Result ℕ Refusal → List ℕ → Type 0
 RangeCall p message start long parties prefixes before a after =
     (outcome a ≡ range_answer p message start long parties (length prefixes) (length before))
     × (after ≡ range_output p message start long parties prefixes before)

@@ -1,7 +1,7 @@
 -- The opener of padded messages (document 02, a): its answer, and its output, the one string of whole blocks that has these prefixes, message and
 -- padding. Nobody says how long the message is: the prefixes' length tells the number N of blocks, and the last block where the message ends.
 -- Assumes nothing.
-use Rattle.std.specs.Prelude.{◌≡◌, cond, not, List, [], ◌∷◌, ℕ, ◌*◌, eqb, length}
+use Rattle.std.specs.Prelude.{◌≡◌, cond, not, List, [], ◌∷◌, ℕ, ◌*◌, eqb, length, Result, Ok, Err}
 use Rattle.lists.specs.Each.{occurs}
 use Rattle.scheme.specs.Outcome.{Outcome, accepted, refused, number_if, first_of, answer}
 use Rattle.scheme.specs.Check.{refusal}
@@ -10,13 +10,14 @@ use Rattle.scheme.specs.Padding.{most_padded, blocks_held}
 use Rattle.family.specs.Padding.{end_place, end_refused}
 use Rattle.staircase.specs.Parameters.{Parameters, block, prefix_rows}
 use Rattle.staircase.specs.Exactness.{prefix_bytes, opened_string}
-use Rattle.reader.specs.declared.padded.PaddedAnswer.{PaddedAnswer}
-use Rattle.reader.specs.declared.padded.PaddedAnswer.TheVariants.{Opened, Refused}
+use Rattle.scheme.specs.declared.refusal.Refusal.{Refusal}
+use Rattle.scheme.specs.Refusals.{number}
+use Rattle.reader.specs.declared.padded.PaddedOpening.{PaddedOpening}
 
 -- the cases of its answer: the prefix bytes used and the message's length L, or the number of the refusal
-abbrev pub padded_outcome : PaddedAnswer → Outcome
-padded_outcome (Opened used message) = accepted (used ∷ message ∷ [])
-padded_outcome (Refused q) = refused q
+abbrev pub padded_outcome : Result PaddedOpening Refusal → Outcome
+padded_outcome (Ok opening) = accepted (opening.used ∷ opening.length ∷ [])
+padded_outcome (Err q) = refused (number q)
 
 -- N of prefixes of so many bytes, of d parties; 0 where no message of an accepted length makes them
 unfoldable pub blocks_sent : Parameters → ℕ → ℕ → ℕ
@@ -52,6 +53,6 @@ reconstruct_padded_output p parties prefixes before =
     cond (eqb (reconstruct_padded_refusal p parties prefixes (length before)) 0) (opened_padded p parties prefixes) before
 
 -- a call of it, as its contract has it: what it answers, and what an output that held `before` holds after it
-abbrev pub ReconstructPaddedCall : Parameters → List ℕ → List ℕ → List ℕ → PaddedAnswer → List ℕ → Type 0
+abbrev pub ReconstructPaddedCall : Parameters → List ℕ → List ℕ → List ℕ → Result PaddedOpening Refusal → List ℕ → Type 0
 ReconstructPaddedCall p parties prefixes before a after =
     (padded_outcome a ≡ reconstruct_padded_answer p parties prefixes (length before)) × (after ≡ reconstruct_padded_output p parties prefixes before)

@@ -27,9 +27,11 @@ pub(crate) fn combine(
     let mut chosen = [0u8; SIDE];
     choose(weights, n, e, &mut chosen);
     let mut sum = add_marked([0u8; LANES], columns, &chosen, n, 128);
+    // The bits as a range of shifts were tried, and as an array: an opening took a tenth longer, or more.
     let mut bit: u8 = 64;
     while 0 < bit {
         let twice = lanes::double_each(sum);
+        // Not laid in `sum` at once: the borrow checker does not cover a call whose result overwrites an array.
         let more = add_marked(twice, columns, &chosen, n, bit);
         sum = more;
         bit = bit / 2;
@@ -42,12 +44,10 @@ pub(crate) fn combine(
 fn choose(weights: &[[u8; SIDE]; SIDE], n: usize, e: usize, chosen: &mut [u8; SIDE])
     requires { (length chosen.old ≡ side) × (n ≤ side) × (e < side) }
     ensures chosen { (i : ℕ) → i < n → get_or chosen.new i 0 ≡ get_or (get_or weights.now i []) e 0 }
-    ensures bytes { (i : ℕ) → i < n → get_or (get_or weights.now i []) e 0 < 256 }
+    ensures bytes { (i : ℕ) → i < n → get_or chosen.new i 0 < 256 }
 {
-    let mut i = 0;
-    while i < n {
+    for i in 0..n {
         chosen[i] = weight(weights, i, e);
-        i += 1;
     }
 }
 
@@ -72,13 +72,11 @@ fn add_marked(
     ensures { result ≡ tabulate lanes (λ k. get_or sum k 0 ⊕ sum_to n (λ i. get_or columns.now (i * lanes + k) 0 * (get_or weights.now i 0 / bit % 2))) }
 {
     let mut total = sum;
-    let mut i = 0;
-    while i < n {
+    for i in 0..n {
         if weights[i] / bit % 2 == 1 {
             let more = lanes::sum_each(total, columns::column(columns, i));
             total = more;
         }
-        i += 1;
     }
     total
 }

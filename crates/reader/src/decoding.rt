@@ -7,49 +7,28 @@ ghost use Rattle.gf256.specs.Lanes.{lanes};
 ghost use Rattle.interpolation.specs.Interpolation.{side};
 ghost use Rattle.reader.specs.Decoding as decoding;
 ghost use Rattle.scheme.specs.Limits.{max_block, max_blocks};
-ghost use Rattle.reader.specs.Decoding.{Solves, SolvesBatch};
+ghost use Rattle.reader.specs.Decoding.{SolvesBatch};
+ghost use Rattle.reader.specs.Prefixes.{sizes_of, Finds};
+ghost use Rattle.reader.specs.Rows.{read_in, SolvesRow};
 
 use crate::combining::combine;
 use crate::copying::copy;
+use crate::prefixes::Prefixes;
+use crate::row::Row;
 use columns::FLAT;
 use gf256::lanes::LANES;
 use interpolation::SIDE;
-use scheme::Scheme;
 
 // Writes the first bytes of a column, `many` of them, `step` apart from place `at` on.
 fn scatter(column: [u8; LANES], at: usize, step: usize, many: usize, work: &mut [u8])
     requires { (many ≤ lanes) × (at + lanes * step ≤ decoding.max_usize) × ((k : ℕ) → k < many → at + k * step < length work.old) }
     ensures { decoding.Scattered column at step many many work.old work.new }
 {
-    let mut k = 0;
+    // The place is carried on: `at + k * step` was tried, and an opening took up to 6 % longer.
     let mut place = at;
-    while k < many {
+    for k in 0..many {
         work[place] = column[k];
         place += step;
-        k += 1;
-    }
-}
-
-// Writes the columns of the row's coefficients from degree d up, of which there are `top` in all, to
-// their places in the buffer of columns: they are found already and stand in the work buffer.
-pub(crate) fn known(
-    work: &[u8],
-    places: &[usize; SIDE],
-    d: usize,
-    top: usize,
-    t: usize,
-    m: usize,
-    columns: &mut [u8],
-)
-    requires { (d ≤ top) × (top ≤ side) × (t * m + m ≤ decoding.max_usize) × ((e : ℕ) → d ≤ e → e < top → get_or places.now e 0 < m) × (length columns.old ≡ side * lanes) }
-    ensures { decoding.KnownColumns work.now places.now d top t m columns.new }
-{
-    let mut e = d;
-    while e < top {
-        let at = e * LANES;
-        let end = at + LANES;
-        columns::gather_into(work, t * m + places[e], m, &mut columns[at..end]);
-        e += 1;
     }
 }
 
@@ -65,18 +44,18 @@ pub(crate) struct Sizes {
     pub(crate) skip: usize,
 }
 
-// Those of d prefixes of N blocks.
-pub(crate) fn sizes_of(s: Scheme, d: usize, skip: usize, blocks: usize) -> Sizes
-    requires { decoding.sent_rows s d * blocks ≤ decoding.max_usize }
-    ensures { result ≡ decoding.sizes_of s d skip blocks }
+// Those of the prefixes.
+pub(crate) fn sizes_of(prefixes: Prefixes<'_>) -> Sizes
+    ensures { result ≡ sizes_of prefixes.entry }
 {
+    let s = prefixes.scheme;
     Sizes {
-        z: s.z as usize,
-        d,
+        z: usize::from(s.z),
+        d: prefixes.d,
         block: s.block,
-        blocks,
-        prefix: scheme::rows_of_count(s.block, s.z, d) * blocks,
-        skip,
+        blocks: prefixes.blocks,
+        prefix: s.prefix_rows(prefixes.d) * prefixes.blocks,
+        skip: prefixes.skip,
     }
 }
 
@@ -85,10 +64,7 @@ pub(crate) fn place_of(skip: usize, a: usize) -> usize
     requires { a < side }
     ensures { result ≡ skipped skip a }
 {
-    if a < skip {
-        return a;
-    }
-    a + 1
+    if a < skip { a } else { a + 1 }
 }
 
 // Copies bytes of a prefix into a column, and counts them.
@@ -100,32 +76,37 @@ fn load(from: &[u8], used: &mut usize, out: &mut [u8])
     copy(from, out);
 }
 
-// Writes the bytes of d parties from place q of their prefixes on, `many` of them, to the first d
-// columns of the buffer. Those from d up stay: they are the known ones.
-pub(crate) fn load_parties(
-    sizes: Sizes,
-    prefixes: &[u8],
-    q: usize,
-    many: usize,
-    used: &mut usize,
-    columns: &mut [u8],
-)
-    requires input { decoding.SizesFit sizes (decoding.read_by sizes prefixes.now) × (length columns.old ≡ side * lanes) }
-    requires batch { (many ≤ lanes) × (q + many ≤ sizes.prefix) × (used.old + sizes.d * many ≤ decoding.max_usize) }
-    ensures counted { used.new ≡ used.old + sizes.d * many }
-    ensures loaded { decoding.SentColumns (decoding.read_by sizes prefixes.now) sizes.prefix q many sizes.d columns.old columns.new }
-{
-    let d = sizes.d;
-    let prefix = sizes.prefix;
-    let skip = sizes.skip;
-    let mut a = 0;
-    while a < d {
-        let at = place_of(skip, a) * prefix + q;
-        let after = at + many;
-        let from = a * LANES;
-        let end = from + many;
-        load(&prefixes[at..after], used, &mut columns[from..end]);
-        a += 1;
+impl Row<'_> {
+    // Writes the columns of the row's coefficients from degree d up to their places in the buffer of columns: they are
+    // found already and stand in the work buffer.
+    pub(crate) fn known(&self, work: &[u8], t: usize, columns: &mut [u8])
+        requires { (t ≤ self.now.sizes.blocks) × (length columns.old ≡ side * lanes) }
+        ensures { decoding.KnownColumns work.now self.now.places.now self.now.sizes.d self.now.top t self.now.sizes.block columns.new }
+    {
+        let m = self.sizes.block;
+        for e in self.sizes.d..self.top {
+            let at = e * LANES;
+            let end = at + LANES;
+            columns::gather_into(work, t * m + self.places[e], m, &mut columns[at..end]);
+        }
+    }
+
+    // Writes the bytes of d parties in the blocks from t on, `many` of them, to the first d columns of the buffer. Those
+    // from d up stay: they are the known ones.
+    pub(crate) fn load_parties(&self, t: usize, many: usize, used: &mut usize, columns: &mut [u8])
+        requires { (many ≤ lanes) × (t + many ≤ self.now.sizes.blocks) × (length columns.old ≡ side * lanes) × (used.old + self.now.sizes.d * many ≤ decoding.max_usize) }
+        ensures counted { used.new ≡ used.old + self.now.sizes.d * many }
+        ensures loaded { decoding.SentColumns (read_in self.now) self.now.sizes.prefix (self.now.q + t) many self.now.sizes.d columns.old columns.new }
+    {
+        let sizes = self.sizes;
+        let q = self.q + t;
+        for a in 0..sizes.d {
+            let at = place_of(sizes.skip, a) * sizes.prefix + q;
+            let after = at + many;
+            let from = a * LANES;
+            let end = from + many;
+            load(&self.prefixes[at..after], used, &mut columns[from..end]);
+        }
     }
 }
 
@@ -147,12 +128,10 @@ pub(crate) fn solve_batch(
     requires blocks { (many ≤ lanes) × (t ≤ max_blocks) × (m ≤ max_block) × decoding.PlacesBelow z d m places.now × ((t + many) * m ≤ length work.old) }
     ensures { SolvesBatch columns.now weights.now places.now z d top t m many work.old work.new }
 {
-    let mut e = z;
-    while e < d {
+    for e in z..d {
         // With an end that the compiler knows it makes no test of the columns' number for each of them.
         let column = combine(&columns[..FLAT], weights, top, e);
         scatter(column, t * m + places[e], m, many, work);
-        e += 1;
     }
 }
 
@@ -160,100 +139,84 @@ pub(crate) fn solve_batch(
 // those of degrees z to d - 1 are found and written to their places. Each is the sum of the d parties'
 // bytes and of the known coefficients, times their weights.
 fn decode_batch(
-    sizes: Sizes,
-    prefixes: &[u8],
+    row: &Row<'_>,
     weights: &[[u8; SIDE]; SIDE],
-    places: &[usize; SIDE],
-    top: usize,
-    q: usize,
     t: usize,
     many: usize,
     used: &mut usize,
     columns: &mut [u8],
     work: &mut [u8],
 )
-    requires input { decoding.SizesFit sizes (decoding.read_by sizes prefixes.now) × decoding.RowFits sizes top q places.now × (length columns.old ≡ side * lanes) × (length work.old ≡ sizes.blocks * sizes.block) }
-    requires batch { (many ≤ lanes) × (t + many ≤ sizes.blocks) × (used.old + sizes.d * many ≤ decoding.max_usize) }
-    ensures counted { used.new ≡ used.old + sizes.d * many }
-    ensures solved { Solves sizes top q places.now weights.now (decoding.read_by sizes prefixes.now) t (t + many) work.old work.new }
+    requires room { (length columns.old ≡ side * lanes) × (length work.old ≡ row.now.sizes.blocks * row.now.sizes.block) }
+    requires batch { (many ≤ lanes) × (t + many ≤ row.now.sizes.blocks) × (used.old + row.now.sizes.d * many ≤ decoding.max_usize) }
+    ensures counted { used.new ≡ used.old + row.now.sizes.d * many }
+    ensures solved { SolvesRow row.now weights.now t (t + many) work.old work.new }
 {
-    let z = sizes.z;
-    let d = sizes.d;
-    let m = sizes.block;
-    known(work, places, d, top, t, m, columns);
-    load_parties(sizes, prefixes, q + t, many, used, columns);
-    solve_batch(columns, weights, places, z, d, top, t, m, many, work);
+    let sizes = row.sizes;
+    row.known(work, t, columns);
+    row.load_parties(t, many, used, columns);
+    solve_batch(
+        columns,
+        weights,
+        row.places,
+        sizes.z,
+        sizes.d,
+        row.top,
+        t,
+        sizes.block,
+        many,
+        work,
+    );
 }
 
 // One row of all blocks. The buffer of columns is made once: to clear it for each batch would take a
 // twelfth of the time.
-fn decode_row(
-    sizes: Sizes,
-    prefixes: &[u8],
-    weights: [[u8; SIDE]; SIDE],
-    places: &[usize; SIDE],
-    top: usize,
-    q: usize,
-    used: &mut usize,
-    work: &mut [u8],
-)
-    requires input { decoding.SizesFit sizes (decoding.read_by sizes prefixes.now) × decoding.RowFits sizes top q places.now × (length work.old ≡ sizes.blocks * sizes.block) }
-    requires counter { used.old + sizes.d * sizes.blocks ≤ decoding.max_usize }
-    ensures counted { used.new ≡ used.old + sizes.d * sizes.blocks }
-    ensures solved { Solves sizes top q places.now weights (decoding.read_by sizes prefixes.now) 0 sizes.blocks work.old work.new }
+fn decode_row(row: &Row<'_>, weights: [[u8; SIDE]; SIDE], used: &mut usize, work: &mut [u8])
+    requires room { length work.old ≡ row.now.sizes.blocks * row.now.sizes.block }
+    requires counter { used.old + row.now.sizes.d * row.now.sizes.blocks ≤ decoding.max_usize }
+    ensures counted { used.new ≡ used.old + row.now.sizes.d * row.now.sizes.blocks }
+    ensures solved { SolvesRow row.now weights 0 row.now.sizes.blocks work.old work.new }
 {
-    let blocks = sizes.blocks;
+    let blocks = row.sizes.blocks;
     let mut columns = [0u8; FLAT];
+    // A range of steps of 64 was tried: of a short message an opening took 2 % longer.
     let mut t = 0;
     while t < blocks {
         let many = columns::batch_of(blocks - t);
-        decode_batch(
-            sizes,
-            prefixes,
-            &weights,
-            places,
-            top,
-            q,
-            t,
-            many,
-            used,
-            &mut columns,
-            work,
-        );
+        decode_batch(row, &weights, t, many, used, &mut columns, work);
         t += many;
     }
 }
 
-// Decodes the rows of the first turns in the reader's order, `many` of them, from the prefixes of d parties, P × N bytes
-// each and one after another, into the work buffer of N whole blocks. The prefix at place `skip` is passed over: there is
-// one more then, or none is where it is d. A row's origins are found once for all blocks. The answer is the number of the
-// prefixes' bytes that were used.
+// Decodes the rows of the first turns in the reader's order, `many` of them, from the prefixes into the work buffer of N
+// whole blocks. A row's origins are found once for all blocks. The answer is the number of the prefixes' bytes that were
+// used.
 pub(crate) fn decode(
-    s: Scheme,
-    counts: &[u8],
-    d: usize,
-    skip: usize,
-    blocks: usize,
+    prefixes: Prefixes<'_>,
     many: usize,
     weights: [[u8; SIDE]; SIDE],
-    prefixes: &[u8],
     work: &mut [u8],
 ) -> usize
-    requires { decoding.Input s counts.now d blocks (decoding.read_from s d blocks skip prefixes.now) × (many ≤ decoding.sent_rows s d) × (length work.old ≡ blocks * s.block) }
-    ensures counted { result ≡ d * (many * blocks) }
-    ensures found { decoding.EachSent s counts.now d blocks weights (decoding.read_from s d blocks skip prefixes.now) (λ B. decoding.Found s counts.now d blocks many B work.new) }
+    requires { (many ≤ decoding.sent_rows prefixes.scheme prefixes.d) × (length work.old ≡ prefixes.blocks * prefixes.scheme.block) }
+    ensures counted { result ≡ prefixes.entry.d * (many * prefixes.entry.blocks) }
+    ensures found { Finds prefixes.entry weights many work.new }
 {
-    let sizes = sizes_of(s, d, skip, blocks);
-    let groups = order::group_number(counts, d);
+    let s = prefixes.scheme;
+    let sizes = sizes_of(prefixes);
+    let groups = order::group_number(s.counts, prefixes.d);
     let mut used = 0;
-    let mut turn = 0;
-    while turn < many {
-        let j = order::row_in_turn(s.block, s.z, counts, groups, turn);
+    for turn in 0..many {
+        let j = order::row_in_turn(s.block, s.z, s.counts, groups, turn);
         let mut places = [0usize; SIDE];
-        let top = rows::row_origins(s.block, s.z, counts, j, &mut places);
-        let q = j * blocks;
-        decode_row(sizes, prefixes, weights, &places, top, q, &mut used, work);
-        turn += 1;
+        let top = rows::row_origins(s.block, s.z, s.counts, j, &mut places);
+        let row = Row {
+            sizes,
+            prefixes: prefixes.bytes,
+            places: &places,
+            top,
+            q: j * prefixes.blocks,
+        };
+        decode_row(&row, weights, &mut used, work);
     }
     used
 }

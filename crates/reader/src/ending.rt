@@ -4,22 +4,15 @@
 ghost use Rattle.std.specs.Prelude.{◌≡◌, cond, ◌≤◌, ◌<◌, eqb, length};
 ghost use Rattle.reader.specs.Ending.{LastOf, EndOf, CanSeek, EndBy};
 
-use lists::wide;
 use scheme::limits::MAX_MESSAGE;
 use scheme::padding::END_MARKER;
 
-// How the end is known.
+// How the end is known. A closure that finds it would need more in the contracts that it goes through: that it may be called
+// on the blocks, and what it answers of them.
 #[derive(Clone, Copy)]
 pub(crate) enum Ending {
     Told,
     Sought,
-}
-
-// The message's length, or that the blocks do not end as those of a padded message do.
-#[derive(Clone, Copy)]
-pub(crate) enum End {
-    At(usize),
-    Missing,
 }
 
 // The last byte that is not 0, and one more than its place; both are 0 where there is none.
@@ -33,7 +26,7 @@ struct Last {
 pub(crate) fn nonzero(x: u8) -> usize
     ensures { result ≡ cond (eqb x 0) 0 1 }
 {
-    (wide(x) + 255) / 256
+    (usize::from(x) + 255) / 256
 }
 
 // The second number where `second` is 1, the first where it is 0.
@@ -49,41 +42,39 @@ fn last_nonzero(bytes: &[u8]) -> Last
 {
     let mut byte = 0;
     let mut after = 0;
-    let mut i = 0;
-    while i < bytes.len() {
-        let next = bytes[i];
-        let some = nonzero(next);
-        i += 1;
-        byte = chosen(some, byte, wide(next));
-        after = chosen(some, after, i);
+    for (i, next) in bytes.iter().enumerate() {
+        let some = nonzero(*next);
+        byte = chosen(some, byte, usize::from(*next));
+        after = chosen(some, after, i + 1);
     }
     Last { byte, after }
 }
 
-// The end in N whole blocks of m bytes, N at least 1.
-fn sought(blocks: &[u8], m: usize) -> End
+// The end in N whole blocks of m bytes, N at least 1: the message's length, or none where the blocks do not end as those
+// of a padded message do.
+fn sought(blocks: &[u8], m: usize) -> Option<usize>
     requires { (0 < m) × (m ≤ length blocks.now) }
     ensures { EndOf m blocks.now result }
 {
     let start = blocks.len() - m;
     let last = last_nonzero(&blocks[start..]);
-    if last.byte != wide(END_MARKER) {
-        return End::Missing;
+    if last.byte != usize::from(END_MARKER) {
+        return None;
     }
     let length = start + last.after - 1;
     if MAX_MESSAGE < length {
-        return End::Missing;
+        return None;
     }
-    End::At(length)
+    Some(length)
 }
 
 // The end by either way. An output of `told` bytes is lent.
-pub(crate) fn end_by(how: Ending, blocks: &[u8], m: usize, told: usize) -> End
+pub(crate) fn end_by(how: Ending, blocks: &[u8], m: usize, told: usize) -> Option<usize>
     requires { CanSeek how m blocks.now }
     ensures { EndBy how m blocks.now told result }
 {
     match how {
-        Ending::Told => End::At(told),
+        Ending::Told => Some(told),
         Ending::Sought => sought(blocks, m),
     }
 }

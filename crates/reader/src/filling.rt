@@ -5,56 +5,44 @@
 ghost use Rattle.std.specs.Prelude.{◌≡◌, ◌+◌, ◌*◌, ◌≤◌, length};
 ghost use Rattle.scheme.specs.Limits.{max_block, max_blocks};
 ghost use Rattle.reader.specs.Decoding as decoding;
-ghost use Rattle.reader.specs.Filling.{FirstColumn, FillsRow, FillsShare};
+ghost use Rattle.reader.specs.Filling.{FirstColumn};
+ghost use Rattle.reader.specs.Prefixes.{Fills};
+ghost use Rattle.reader.specs.Rows.{FillsBlocks};
 
-use crate::decoding::{Sizes, known, load_parties, sizes_of, solve_batch};
+use crate::decoding::{sizes_of, solve_batch};
+use crate::prefixes::Prefixes;
+use crate::row::Row;
 use columns::FLAT;
 use interpolation::SIDE;
-use scheme::Scheme;
 
 // The weights as the first column of a table, as the sums of an opening take them.
 fn in_first_column(chosen: &[u8; SIDE]) -> [[u8; SIDE]; SIDE]
     ensures { FirstColumn chosen.now result }
 {
     let mut table = [[0u8; SIDE]; SIDE];
-    let mut i = 0;
-    while i < SIDE {
-        let mut row = [0u8; SIDE];
-        row[0] = chosen[i];
-        table[i] = row;
-        i += 1;
+    for i in 0..SIDE {
+        table[i][0] = chosen[i];
     }
     table
 }
 
 // One row of all blocks, written from place q of the output on.
-fn fill_row(
-    sizes: Sizes,
-    prefixes: &[u8],
-    weights: &[[u8; SIDE]; SIDE],
-    places: &[usize; SIDE],
-    top: usize,
-    q: usize,
-    work: &[u8],
-    out: &mut [u8],
-)
-    requires input { decoding.SizesFit sizes (decoding.read_by sizes prefixes.now) × decoding.RowFits sizes top q places.now }
-    requires room { (q + sizes.blocks ≤ length out.old) × (length out.old ≤ max_block * max_blocks) }
-    ensures { FillsRow sizes top q places.now weights.now (decoding.read_by sizes prefixes.now) work.now sizes.blocks out.old out.new }
+fn fill_row(row: &Row<'_>, weights: &[[u8; SIDE]; SIDE], work: &[u8], out: &mut [u8])
+    requires { (row.now.q + row.now.sizes.blocks ≤ length out.old) × (length out.old ≤ max_block * max_blocks) }
+    ensures { FillsBlocks row.now weights.now work.now row.now.sizes.blocks out.old out.new }
 {
-    let d = sizes.d;
-    let m = sizes.block;
-    let blocks = sizes.blocks;
+    let blocks = row.sizes.blocks;
     let mut columns = [0u8; FLAT];
     // One byte a block, where the values stand in for a coefficient of degree 0.
     let first = [0usize; SIDE];
+    // A range of steps of 64 was tried: of a short message a rebuilding took 4 % longer.
     let mut t = 0;
     while t < blocks {
         let many = columns::batch_of(blocks - t);
-        known(work, places, d, top, t, m, &mut columns);
+        row.known(work, t, &mut columns);
         let mut used = 0;
-        load_parties(sizes, prefixes, q + t, many, &mut used, &mut columns);
-        let at = q + t;
+        row.load_parties(t, many, &mut used, &mut columns);
+        let at = row.q + t;
         let end = at + many;
         solve_batch(
             &columns,
@@ -62,7 +50,7 @@ fn fill_row(
             &first,
             0,
             1,
-            top,
+            row.top,
             0,
             1,
             many,
@@ -74,30 +62,24 @@ fn fill_row(
 
 // Fills the output with the share at a point, by the weights of that point. The work buffer has the blocks that were
 // decoded from the same prefixes, which are whole shares.
-pub(crate) fn fill_share(
-    s: Scheme,
-    counts: &[u8],
-    d: usize,
-    skip: usize,
-    blocks: usize,
-    chosen: &[u8; SIDE],
-    prefixes: &[u8],
-    work: &[u8],
-    out: &mut [u8],
-)
-    requires input { decoding.Input s counts.now d blocks (decoding.read_from s d blocks skip prefixes.now) × (decoding.sent_rows s d ≡ s.rows) }
-    requires room { length out.old ≡ s.rows * blocks }
-    ensures { FillsShare s counts.now d blocks chosen.now (decoding.read_from s d blocks skip prefixes.now) work.now out.new }
+pub(crate) fn fill_share(prefixes: Prefixes<'_>, chosen: &[u8; SIDE], work: &[u8], out: &mut [u8])
+    requires whole { decoding.sent_rows prefixes.scheme prefixes.d ≡ prefixes.scheme.rows }
+    requires room { length out.old ≡ prefixes.scheme.rows * prefixes.blocks }
+    ensures { Fills prefixes.entry chosen.now work.now out.new }
 {
-    let rows = s.rows;
-    let sizes = sizes_of(s, d, skip, blocks);
+    let s = prefixes.scheme;
+    let sizes = sizes_of(prefixes);
     let weights = in_first_column(chosen);
-    let mut j = 0;
-    while j < rows {
+    for j in 0..s.rows {
         let mut places = [0usize; SIDE];
-        let top = rows::row_origins(s.block, s.z, counts, j, &mut places);
-        let q = j * blocks;
-        fill_row(sizes, prefixes, &weights, &places, top, q, work, out);
-        j += 1;
+        let top = rows::row_origins(s.block, s.z, s.counts, j, &mut places);
+        let row = Row {
+            sizes,
+            prefixes: prefixes.bytes,
+            places: &places,
+            top,
+            q: j * prefixes.blocks,
+        };
+        fill_row(&row, &weights, work, out);
     }
 }

@@ -1,13 +1,14 @@
 // The opener for a range of the message (document 02, e): it takes only the rows that reach the range.
 ghost use Rattle.std.specs.Prelude.{◌≡◌, ◌+◌, ltb};
-ghost use Rattle.staircase.specs.Parameters.{parameters, default_parameters};
+ghost use Rattle.staircase.specs.Parameters.{given_parameters};
 ghost use Rattle.reader.specs.Range.{RangeCall};
 ghost use Rattle.reader.specs.Opening.{OpenedCall};
 
 use crate::ending::Ending;
 use crate::opening::open;
+use crate::readers::Readers;
 use crate::taking::{Take, rows_by};
-use scheme::{Answer, SchemeAnswer, limits};
+use scheme::{Form, Parameters, Refusal};
 
 // Reconstructs the bytes from `start` on, `range_length` of them, of a message of so many bytes, from the prefixes of these
 // parties, one after another in their order. Of the prefixes it uses only the rows that the range needs, in the reader's
@@ -17,51 +18,19 @@ use scheme::{Answer, SchemeAnswer, limits};
 // count. 7: their numbers do not rise strictly, or one is outside 1 to n. 15: the range ends past the message. 9: the
 // prefixes have not the bytes of that many parties' prefixes. 10: the output has not the range's length.
 pub fn reconstruct_range(
-    n: u8,
-    r: u8,
-    z: u8,
-    counts: &[u8],
+    given: Parameters,
     message_length: usize,
     start: usize,
     range_length: usize,
     parties: &[u8],
     prefixes: &[u8],
     out: &mut [u8],
-) -> Answer
-    ensures { RangeCall (parameters n r z counts.now) message_length start range_length parties.now prefixes.now out.old result out.new }
+) -> Result<usize, Refusal>
+    ensures { RangeCall (given_parameters given.entry) message_length start range_length parties.now prefixes.now out.old result out.new }
 {
     open_range(
         Take::Needed,
-        n,
-        r,
-        z,
-        counts,
-        message_length,
-        start,
-        range_length,
-        parties,
-        prefixes,
-        out,
-    )
-}
-
-// The same in the default scheme.
-pub fn reconstruct_range_default(
-    message_length: usize,
-    start: usize,
-    range_length: usize,
-    parties: &[u8],
-    prefixes: &[u8],
-    out: &mut [u8],
-) -> Answer
-    ensures { RangeCall default_parameters message_length start range_length parties.now prefixes.now out.old result out.new }
-{
-    let counts = limits::DEFAULT_COUNTS;
-    reconstruct_range(
-        limits::DEFAULT_N,
-        limits::DEFAULT_R,
-        limits::DEFAULT_Z,
-        &counts,
+        given,
         message_length,
         start,
         range_length,
@@ -75,69 +44,48 @@ pub fn reconstruct_range_default(
 // it needs.
 pub(crate) fn open_range(
     take: Take,
-    n: u8,
-    r: u8,
-    z: u8,
-    counts: &[u8],
+    given: Parameters,
     message_length: usize,
     start: usize,
     range_length: usize,
     parties: &[u8],
     prefixes: &[u8],
     out: &mut [u8],
-) -> Answer
-    ensures { OpenedCall take (parameters n r z counts.now) message_length start range_length parties.now prefixes.now out.old result out.new }
+) -> Result<usize, Refusal>
+    ensures { OpenedCall take (given_parameters given.entry) message_length start range_length parties.now prefixes.now out.old result out.new }
 {
-    let answer = scheme::check(n, r, z, counts);
-    let SchemeAnswer::Accepted(s) = answer else {
-        return Answer::Refused(scheme::refusal(answer));
-    };
+    let s = scheme::check(given)?;
     // What the next tests ask, worked out before them, so that they stand in the table's order, side by side.
     let d = parties.len();
-    let counted = scheme::is_count(d, counts);
-    let unordered = scheme::readers_refused(n, parties);
+    let counted = scheme::is_count(d, s.counts);
+    let unordered = scheme::readers_refused(s.n, parties);
     let past = ends_past(message_length, start, range_length);
-    if limits::MAX_MESSAGE < message_length {
-        return Answer::Refused(5);
-    }
+    let blocks = s.blocks(Form::Earlier, message_length)?;
     if !counted {
-        return Answer::Refused(6);
+        return Err(Refusal::Readers);
     }
     if unordered {
-        return Answer::Refused(7);
+        return Err(Refusal::PartyNumbers);
     }
     if past {
-        return Answer::Refused(15);
+        return Err(Refusal::Range);
     }
-    let blocks = scheme::block_count(s.block, message_length);
-    let sent = d * scheme::rows_of_count(s.block, z, d) * blocks;
+    let sent = d * s.prefix_rows(d) * blocks;
     if prefixes.len() != sent {
-        return Answer::Refused(9);
+        return Err(Refusal::ShareLength);
     }
     if out.len() != range_length {
-        return Answer::Refused(10);
+        return Err(Refusal::OutputLength);
     }
-    let many = rows_by(take, s, counts, d, start, range_length);
-    let found = open(
-        s,
-        counts,
-        blocks,
-        many,
-        parties,
-        prefixes,
-        Ending::Told,
-        start,
-        out,
-    );
-    Answer::Value(found.used)
+    let readers = Readers { scheme: s, parties };
+    let many = rows_by(take, readers, start, range_length);
+    let found = open(readers, blocks, many, prefixes, Ending::Told, start, out);
+    Ok(found.used)
 }
 
 // Does a range of so many bytes from `start` on end past a message of `message` bytes? The sum may be above every usize.
 fn ends_past(message: usize, start: usize, range_length: usize) -> bool
     ensures { result ≡ ltb message (start + range_length) }
 {
-    if message < start {
-        return true;
-    }
-    message - start < range_length
+    message < start || message - start < range_length
 }

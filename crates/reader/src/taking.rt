@@ -3,57 +3,46 @@
 ghost use Rattle.std.specs.Prelude.{◌≡◌, ℕ, ◌+◌, ◌-◌, ◌%◌, ◌≤◌, ◌<◌, ltb};
 ghost use Rattle.interpolation.specs.Interpolation.{side};
 ghost use Rattle.scheme.specs.Limits.{max_block};
-ghost use Rattle.order.specs.RowsTaken.{rows_taken};
 ghost use Rattle.reader.specs.Decoding as decoding;
-ghost use Rattle.reader.specs.Opening.{HoldsWanted, rows_by};
+ghost use Rattle.reader.specs.Opening.{HoldsWanted};
+ghost use Rattle.reader.specs.Taking.{rows_taken, rows_by};
 
+use crate::readers::Readers;
 use interpolation::SIDE;
-use lists::wide;
-use scheme::Scheme;
 
-// Which rows are taken.
+// Which rows are taken. No closure that counts them: it would need its own clauses in the contract of `open_range`.
 #[derive(Clone, Copy)]
 pub(crate) enum Take {
     All,
     Needed,
 }
 
-// The number of rows that are taken, of those that d parties send.
-pub(crate) fn rows_by(
-    take: Take,
-    s: Scheme,
-    counts: &[u8],
-    d: usize,
-    start: usize,
-    range_length: usize,
-) -> usize
-    requires { decoding.Counted s counts.now d }
-    ensures { result ≡ rows_by take (decoding.sent_rows s d) (rows_taken s.block s.z counts.now d start range_length) }
+// The number of rows that are taken, of those that the parties send.
+pub(crate) fn rows_by(take: Take, readers: Readers<'_>, start: usize, range_length: usize) -> usize
+    ensures { result ≡ rows_by take readers.entry start range_length }
 {
     match take {
-        Take::All => scheme::rows_of_count(s.block, s.z, d),
-        Take::Needed => rows_taken(s, counts, d, start, range_length),
+        Take::All => readers.scheme.prefix_rows(readers.parties.len()),
+        Take::Needed => rows_taken(readers, start, range_length),
     }
 }
 
 // The rows taken for a range: up to the last turn in which a byte of the range stands below degree d. Each byte does so
 // in one turn alone, and in no earlier turn it stands at all, so it is not known before.
-fn rows_taken(s: Scheme, counts: &[u8], d: usize, start: usize, range_length: usize) -> usize
-    requires { decoding.Counted s counts.now d }
-    ensures { result ≡ rows_taken s.block s.z counts.now d start range_length }
+fn rows_taken(readers: Readers<'_>, start: usize, range_length: usize) -> usize
+    ensures { result ≡ rows_taken readers.entry start range_length }
 {
-    let groups = order::group_number(counts, d);
+    let s = readers.scheme;
+    let d = readers.parties.len();
+    let groups = order::group_number(s.counts, d);
     let from = start % s.block;
-    let mut taken = scheme::rows_of_count(s.block, s.z, d);
-    while 0 < taken {
-        let turn = taken - 1;
-        let j = order::row_in_turn(s.block, s.z, counts, groups, turn);
+    for turn in (0..s.prefix_rows(d)).rev() {
+        let j = order::row_in_turn(s.block, s.z, s.counts, groups, turn);
         let mut places = [0usize; SIDE];
-        rows::row_origins(s.block, s.z, counts, j, &mut places);
-        if holds_wanted(&places, wide(s.z), d, s.block, from, range_length) {
-            return taken;
+        rows::row_origins(s.block, s.z, s.counts, j, &mut places);
+        if holds_wanted(&places, usize::from(s.z), d, s.block, from, range_length) {
+            return turn + 1;
         }
-        taken = turn;
     }
     0
 }
@@ -71,14 +60,7 @@ fn holds_wanted(
     requires { (block ≤ max_block) × (from < block) × (d ≤ side) × decoding.PlacesBelow z d block places.now }
     ensures { (start : ℕ) → from ≡ start % block → HoldsWanted block start range_length z d places.now result }
 {
-    let mut e = z;
-    while e < d {
-        if is_wanted(block, from, range_length, places[e]) {
-            return true;
-        }
-        e += 1;
-    }
-    false
+    (z..d).any(|e| is_wanted(block, from, range_length, places[e]))
 }
 
 // Is the byte at this place of a block one of the range? It is where it is less than the range's length away from the
@@ -88,7 +70,8 @@ fn is_wanted(block: usize, from: usize, range_length: usize, place: usize) -> bo
     ensures { result ≡ ltb ((place + (block - from)) % block) range_length }
 {
     if from <= place {
-        return place - from < range_length;
+        place - from < range_length
+    } else {
+        place + (block - from) < range_length
     }
-    place + (block - from) < range_length
 }

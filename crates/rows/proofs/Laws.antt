@@ -9,7 +9,7 @@ use native.Mathlib.Nat.{eq-zero-or-pos}
 use native.Mathlib.Omega.{arith}
 use lib.ListN.{length, get_or}
 use Rattle.interpolation.specs.Interpolation.{side}
-use Rattle.scheme.specs.declared.Scheme.{Scheme}
+use Rattle.scheme.specs.declared.accepted.Scheme.{Scheme}
 use Rattle.scheme.specs.Check.{rows_of_count}
 use Rattle.scheme.specs.Facts.{SchemeIs}
 use Rattle.staircase.specs.Coefficients.{group_of, count_of, origin}

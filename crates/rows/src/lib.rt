@@ -1,6 +1,7 @@
 // What the rows of a block are made of: a row's group and the number of its coefficients, where each of
 // them comes from, and the points at which the parties have the rows' values. The public functions take any
-// numbers, and have an answer for those that no scheme has too; nobody uses it.
+// numbers, and have an answer for those that no scheme has too; nobody uses it. So they are not lent a `Scheme`,
+// which only accepted numbers have; a struct of the same three fields beside it would have to be made at each call.
 #![tactic(auto)]
 
 ghost use Rattle.std.specs.Prelude.{◌≡◌, ltb, get_or};
@@ -12,7 +13,6 @@ ghost use Rattle.rows.specs.Points.{points_of, party_points};
 ghost use Rattle.rows.specs.Sources.{SourceIs};
 
 use interpolation::SIDE;
-use lists::{smaller, wide};
 use scheme::limits::MAX_BLOCK;
 
 // The point at which a party has the rows' values: its number.
@@ -27,11 +27,9 @@ pub fn points_of(parties: &[u8]) -> [u8; SIDE]
     ensures { (p : Parameters) → result ≡ points_of p parties.now }
 {
     let mut points = [0u8; SIDE];
-    let end = smaller(parties.len(), SIDE);
-    let mut i = 0;
-    while i < end {
+    let end = parties.len().min(SIDE);
+    for i in 0..end {
         points[i] = point_of(parties[i]);
-        i += 1;
     }
     points
 }
@@ -41,11 +39,10 @@ pub fn party_points(n: usize) -> [u8; SIDE]
     ensures { (p : Parameters) → result ≡ party_points p n }
 {
     let mut points = [0u8; SIDE];
-    let end = smaller(n, SIDE);
-    let mut i = 0;
-    while i < end {
+    let end = n.min(SIDE);
+    for i in 0..end {
+        // At most 16. A u8 has no From of a usize.
         points[i] = point_of((i + 1) as u8);
-        i += 1;
     }
     points
 }
@@ -60,13 +57,13 @@ fn sends(block: usize, z: u8, d: u8, row: usize) -> bool
         return false;
     }
     if MAX_BLOCK < block {
-        return row < scheme::rows_of_count(block, z, wide(d));
+        return row < scheme::rows_of_count(block, z, usize::from(d));
     }
     // P is at most the block length.
     if block <= row {
         return false;
     }
-    (row + 1) * wide(d - z) <= block
+    (row + 1) * usize::from(d - z) <= block
 }
 
 // The group of a row, counted from 0: the place of the first count whose P is above the row, or the number
@@ -74,14 +71,12 @@ fn sends(block: usize, z: u8, d: u8, row: usize) -> bool
 fn group_of(block: usize, z: u8, counts: &[u8], row: usize) -> usize
     ensures { result ≡ group_of block z counts.now row }
 {
-    let mut i = 0;
-    while i < counts.len() {
-        if sends(block, z, counts[i], row) {
+    for (i, d) in counts.iter().enumerate() {
+        if sends(block, z, *d, row) {
             return i;
         }
-        i += 1;
     }
-    i
+    counts.len()
 }
 
 // Writes the origins of a row's coefficients into `places`, each at its degree: from z up, below the row's
@@ -92,11 +87,9 @@ pub fn row_origins(block: usize, z: u8, counts: &[u8], row: usize, places: &mut 
 {
     let i = group_of(block, z, counts, row);
     let d = count_at(counts, i);
-    let end = smaller(d, places.len());
-    let mut e = wide(z);
-    while e < end {
+    let end = d.min(places.len());
+    for e in usize::from(z)..end {
         places[e] = origin(block, z, counts, i, row, e);
-        e += 1;
     }
     d
 }
@@ -109,9 +102,9 @@ fn origin(block: usize, z: u8, counts: &[u8], i: usize, row: usize, degree: usiz
 {
     match source_of(block, z, counts, i, row, degree) {
         Source::Message(place) => place,
-        Source::Copy(earlier, its_degree) => {
+        Source::Copy { earlier, degree } => {
             let its_group = group_of(block, z, counts, earlier);
-            origin(block, z, counts, its_group, earlier, its_degree)
+            origin(block, z, counts, its_group, earlier, degree)
         }
     }
 }
@@ -120,7 +113,7 @@ fn origin(block: usize, z: u8, counts: &[u8], i: usize, row: usize, degree: usiz
 #[derive(Clone, Copy)]
 enum Source {
     Message(usize),
-    Copy(usize, usize),
+    Copy { earlier: usize, degree: usize },
 }
 
 // Where the coefficient of a degree comes from, in a row of group i. The first group holds the block's bytes
@@ -131,7 +124,7 @@ fn source_of(block: usize, z: u8, counts: &[u8], i: usize, row: usize, degree: u
     requires { i ≡ group_of block z counts.now row }
     ensures { SourceIs block z counts.now row degree result }
 {
-    let low = wide(z);
+    let low = usize::from(z);
     let d = count_at(counts, i);
     // A key.
     if degree < low {
@@ -157,15 +150,15 @@ fn source_of(block: usize, z: u8, counts: &[u8], i: usize, row: usize, degree: u
     if row <= earlier {
         return Source::Message(0);
     }
-    Source::Copy(earlier, d + q % width)
+    Source::Copy {
+        earlier,
+        degree: d + q % width,
+    }
 }
 
 // The count at a place, 0 past the last.
 pub fn count_at(counts: &[u8], i: usize) -> usize
     ensures { result ≡ get_or counts.now i 0 }
 {
-    if i < counts.len() {
-        return wide(counts[i]);
-    }
-    0
+    counts.get(i).map_or(0, |d| usize::from(*d))
 }

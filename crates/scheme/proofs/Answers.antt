@@ -8,11 +8,10 @@ use Prim.Native.Nat.{ℕ, zero, suc, ◌≤◌, ◌<◌}
 use native.Mathlib.Omega.{arith}
 use lib.Dec.{ltb, eqb}
 use borrow.Author.Tests.{lt-ltb, le-ltb, eq-eqb, ne_eqb}
-use Rattle.scheme.specs.declared.Answer.{Answer}
-use Rattle.scheme.specs.declared.Answer.TheVariants.{Value, Refused}
-use Rattle.scheme.specs.declared.SchemeAnswer.{SchemeAnswer}
-use Rattle.scheme.specs.declared.SchemeAnswer.TheVariants.{Refused as SchemeRefused}
-use Rattle.scheme.specs.Outcome.{Outcome, accepted, refused, outcome, scheme_outcome, number_if, first_of, answer}
+use Rattle.std.specs.Prelude.{Result, Ok, Err}
+use Rattle.scheme.specs.declared.refusal.Refusal.{Refusal}
+use Rattle.scheme.specs.Refusals as refusals
+use Rattle.scheme.specs.Outcome.{Outcome, accepted, refused, outcome, number_if, first_of, answer}
 use Rattle.scheme.specs.Check.{refusal, checked}
 
 -- ---- the ways through a list of refusals, for a call with these values
@@ -90,27 +89,25 @@ pub refuses : {A : Type 0} {v q : ℕ} {vs qs : List ℕ} {old : A} (new : A) �
 refuses new w = (answers w, kept new (answered_some _ _ _ _ (answers w)).1)
 
 -- for whoever takes the answer a apart
-module _ (a : Answer) (k v : ℕ) (e : outcome a ≡ answer k (v ∷ [])) where
-  pub told-refused : {q : ℕ} → a ≡ Refused q → 0 < k
-  told-refused {q} told = (answered_some k q v [] (sym (ap outcome told) ∙ e)).1
+module _ (a : Result ℕ Refusal) (k v : ℕ) (e : outcome a ≡ answer k (v ∷ [])) where
+  pub told-refused : {q : Refusal} → a ≡ Err q → 0 < k
+  told-refused {q} told = (answered_some k (refusals.number q) v [] (sym (ap outcome told) ∙ e)).1
 
-  pub told-accepted : {d : ℕ} → a ≡ Value d → (k ≡ 0) × (d ≡ v)
+  pub told-accepted : {d : ℕ} → a ≡ Ok d → (k ≡ 0) × (d ≡ v)
   told-accepted {d} told =
       let none = answered_none k (d ∷ []) (v ∷ []) (sym (ap outcome told) ∙ e) in
       (none.0, cc none.1)
 
 -- ---- the scheme's refusals come first
 
-module _ (n r z : ℕ) (ds : List ℕ) {a : SchemeAnswer} {k : ℕ} (e : scheme_outcome a ≡ checked n r z ds) (told : a ≡ SchemeRefused k) where
-  pub scheme-told : (refusal n r z ds ≡ k) × (0 < refusal n r z ds)
+module _ (n r z : ℕ) (ds : List ℕ) (q : Refusal) (e : refused (refusals.number q) ≡ checked n r z ds) where
+  pub scheme-told : (refusal n r z ds ≡ refusals.number q) × (0 < refusal n r z ds)
   unfolding checked
-  scheme-told = answered_some (refusal n r z ds) k n _ (sym (ap scheme_outcome told) ∙ e)
+  scheme-told = answered_some (refusal n r z ds) (refusals.number q) n _ e
 
-  -- the code takes the number q of the check's answer a where that is no scheme
-  pub stop_scheme : {vs qs : List ℕ} {q : ℕ} → q ≡ (scheme_outcome a).number → Way vs (refusal n r z ds ∷ qs) (refused q)
-  stop_scheme is =
-      let same = is ∙ ap (λ (x : SchemeAnswer). (scheme_outcome x).number) told ∙ sym scheme-told.0 in
-      rw same (stop scheme-told.1)
+  -- the code passes the check's refusal on
+  pub stop_scheme : {vs qs : List ℕ} → Way vs (refusal n r z ds ∷ qs) (refused (refusals.number q))
+  stop_scheme = rw (sym scheme-told.0) (stop scheme-told.1)
 
 -- ---- none applies: the first does not, nor any after it
 

@@ -12,13 +12,13 @@ use lib.ListN.{length, get_or, take}
 use borrow.Author.Tests.{ltb-true, ltb-false, leb-true, leb-false, eqb-true, eqb-false, not-true, not-false}
 use Rattle.lists.specs.Each.{Each, occurs}
 use Rattle.lists.proofs.Each.{occurs-false, false-occurs, each_imp, each_append}
-use Rattle.scheme.specs.declared.Answer.{Answer}
-use Rattle.scheme.specs.declared.Answer.TheVariants.{Value, Refused}
-use Rattle.scheme.specs.declared.Scheme.{Scheme}
-use Rattle.scheme.specs.declared.SchemeAnswer.{SchemeAnswer}
-use Rattle.scheme.specs.declared.SchemeAnswer.TheVariants.{Accepted, Refused as SchemeRefused}
+use Rattle.std.specs.Prelude.{Result, Ok, Err}
+use Rattle.scheme.specs.declared.refusal.Refusal.{Refusal}
+use Rattle.scheme.specs.declared.accepted.Scheme.{Scheme}
+use Rattle.scheme.specs.Refusals as refusals
 use Rattle.scheme.specs.Limits.{max_block, default_n, default_r, default_z, default_counts}
-use Rattle.scheme.specs.Outcome.{accepted, refused, outcome, scheme_outcome, number_if, first_of, answer}
+use Rattle.scheme.specs.Outcome.{accepted, refused, outcome, number_if, first_of, answer}
+use Rattle.scheme.specs.SchemeOutcome.{scheme_outcome}
 use Rattle.scheme.specs.BlockLength.{block_length}
 use Rattle.scheme.specs.Check.{falls, parties_refused, thresholds_refused, counts_refused, block_refused, refusal, checked}
 use Rattle.scheme.specs.Facts.{SchemeIs}
@@ -27,6 +27,7 @@ use Rattle.scheme.specs.Grounds.{Ground, ground, NoneApplies, FirstApplies, Answ
 use Rattle.scheme.proofs.BlockLength.{block_least, block-above, least_above, least_unique}
 use Rattle.scheme.proofs.Counts.{falls_at, falls-not}
 use Rattle.scheme.proofs.Answers.{stop, numbered, answered_none, answered_some, told-accepted, scheme-told}
+use Rattle.scheme.proofs.Numbers.{number_same}
 use Rattle.scheme.proofs.SchemeFacts as facts
 use Rattle.scheme.proofs.Parties.{readers_rise, readers_pass}
 
@@ -146,19 +147,20 @@ module _ {qs : List ℕ} {grounds : List Ground} (tested : Tested qs grounds) wh
       (first_applies {q = q} tested (omega (arith, told.0, told.1))).0 told.0
 
   module _ (v : ℕ) where
-    value_by : (a : Answer) → outcome a ≡ answer (first_of qs) (v ∷ []) → NoneApplies grounds → (w : ℕ) × (a ≡ Value w)
-    value_by (Value w) e n = (w, refl)
-    value_by (Refused k) e n = absurd (none_first grounds k n (refused-first v k [] e))
+    value_by : (a : Result ℕ Refusal) → outcome a ≡ answer (first_of qs) (v ∷ []) → NoneApplies grounds → (w : ℕ) × (a ≡ Ok w)
+    value_by (Ok w) e n = (w, refl)
+    value_by (Err k) e n = absurd (none_first grounds (refusals.number k) n (refused-first v (refusals.number k) [] e))
 
-    refused_by : (q : ℕ) (a : Answer) → outcome a ≡ answer (first_of qs) (v ∷ []) → FirstApplies q grounds → a ≡ Refused q
-    refused_by q (Value w) e f = absurd (none_first grounds q (accepted_none (v ∷ []) (w ∷ []) e) f)
-    refused_by q (Refused k) e f = ap Refused (first-once grounds k q (refused-first v k [] e) f)
+    refused_by : (q : Refusal) (a : Result ℕ Refusal) → outcome a ≡ answer (first_of qs) (v ∷ []) → FirstApplies (refusals.number q) grounds → a ≡ Err q
+    refused_by q (Ok w) e f = absurd (none_first grounds (refusals.number q) (accepted_none (v ∷ []) (w ∷ []) e) f)
+    refused_by q (Err k) e f =
+        ap Err (number_same k q (first-once grounds (refusals.number k) (refusals.number q) (refused-first v (refusals.number k) [] e) f))
 
-    pub answered_by : (a : Answer) → outcome a ≡ answer (first_of qs) (v ∷ []) → AnsweredBy grounds v a
+    pub answered_by : (a : Result ℕ Refusal) → outcome a ≡ answer (first_of qs) (v ∷ []) → AnsweredBy grounds v a
     answered_by a e =
         record {
           accepts = (λ told. accepted_none (v ∷ []) (told.0 ∷ []) (sym (ap outcome told.1) ∙ e), value_by a e);
-          refuses = λ q. (λ told. refused-first v q [] (sym (ap outcome told) ∙ e), refused_by q a e);
+          refuses = λ q. (λ told. refused-first v (refusals.number q) [] (sym (ap outcome told) ∙ e), refused_by q a e);
           value_is = λ w told. (told-accepted a (first_of qs) v e told).1;
         }
 
@@ -282,23 +284,25 @@ module _ (n r z : ℕ) (ds : List ℕ) where
       }
 
   -- the check answers a scheme, or the number of the first ground that applies
-  first-told : (q : ℕ) → refused q ≡ checked n r z ds → FirstApplies q (scheme_grounds n r z ds)
+  first-told : (q : Refusal) → refused (refusals.number q) ≡ checked n r z ds → FirstApplies (refusals.number q) (scheme_grounds n r z ds)
   first-told q e =
-      let told = scheme-told n r z ds {a = SchemeRefused q} e refl in
-      (first_applies {q = q} scheme_tested (omega (arith, told.0, told.1))).0 (first_alone (refusal n r z ds) ∙ told.0)
+      let told = scheme-told n r z ds q e in
+      (first_applies {q = refusals.number q} scheme_tested (omega (arith, told.0, told.1))).0 (first_alone (refusal n r z ds) ∙ told.0)
 
-  scheme_by : (a : SchemeAnswer) → scheme_outcome a ≡ checked n r z ds → Admissible n r z ds → (s : Scheme) × (a ≡ Accepted s)
-  scheme_by (Accepted s) e h = (s, refl)
-  scheme_by (SchemeRefused q) e h = absurd (none_first (scheme_grounds n r z ds) q (none_of h) (first-told q e))
+  scheme_by : (a : Result Scheme Refusal) → scheme_outcome a ≡ checked n r z ds → Admissible n r z ds → (s : Scheme) × (a ≡ Ok s)
+  scheme_by (Ok s) e h = (s, refl)
+  scheme_by (Err q) e h = absurd (none_first (scheme_grounds n r z ds) (refusals.number q) (none_of h) (first-told q e))
 
-  refused-scheme : (q : ℕ) (a : SchemeAnswer) → scheme_outcome a ≡ checked n r z ds → FirstApplies q (scheme_grounds n r z ds) → a ≡ SchemeRefused q
-  refused-scheme q (Accepted s) e f =
-      absurd (none_first (scheme_grounds n r z ds) q (none_of (admissible (facts.accepted-scheme e refl).passed)) f)
-  refused-scheme q (SchemeRefused k) e f = ap SchemeRefused (first-once (scheme_grounds n r z ds) k q (first-told k e) f)
+  refused-scheme : (q : Refusal) (a : Result Scheme Refusal) → scheme_outcome a ≡ checked n r z ds
+      → FirstApplies (refusals.number q) (scheme_grounds n r z ds) → a ≡ Err q
+  refused-scheme q (Ok s) e f =
+      absurd (none_first (scheme_grounds n r z ds) (refusals.number q) (none_of (admissible (facts.accepted-scheme {s = s} e).passed)) f)
+  refused-scheme q (Err k) e f =
+      ap Err (number_same k q (first-once (scheme_grounds n r z ds) (refusals.number k) (refusals.number q) (first-told k e) f))
 
-  pub check_answers : (a : SchemeAnswer) → scheme_outcome a ≡ checked n r z ds → CheckedBy n r z ds a
+  pub check_answers : (a : Result Scheme Refusal) → scheme_outcome a ≡ checked n r z ds → CheckedBy n r z ds a
   check_answers a e =
-      let is : (s : Scheme) → a ≡ Accepted s → SchemeIs s n r z ds = λ s told. facts.accepted-scheme e told in
+      let is : (s : Scheme) → a ≡ Ok s → SchemeIs s n r z ds = λ s told. facts.accepted-scheme {s = s} (sym (ap scheme_outcome told) ∙ e) in
       record {
         accepts = (λ told. admissible (is told.0 told.1).passed, scheme_by a e);
         refuses = λ q. (λ told. first-told q (sym (ap scheme_outcome told) ∙ e), refused-scheme q a e);
@@ -309,6 +313,6 @@ module _ (n r z : ℕ) (ds : List ℕ) where
         rows_is = λ s told. rw ((is s told).block_is, (is s told).rows_is) (facts.accepted n r z ds (is s told).passed).rows;
       }
 
-pub default_check_answers : (a : SchemeAnswer) → scheme_outcome a ≡ checked default_n default_r default_z default_counts
+pub default_check_answers : (a : Result Scheme Refusal) → scheme_outcome a ≡ checked default_n default_r default_z default_counts
     → CheckedBy default_n default_r default_z default_counts a
 default_check_answers = check_answers default_n default_r default_z default_counts

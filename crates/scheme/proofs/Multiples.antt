@@ -13,11 +13,11 @@ use lib.ListN.{length}
 use Rattle.lists.specs.Each.{Each}
 use Rattle.lists.proofs.Each.{each_get_d}
 use Rattle.lists.proofs.Numbers.{positive_factor}
-use Rattle.scheme.specs.declared.search.Search.TheVariants.{Found, PastLimit}
+use Rattle.std.specs.Prelude.{Some, None}
 use Rattle.scheme.specs.Limits.{max_block}
 use Rattle.scheme.specs.BlockLength.{divides, block_length, Least}
 use Rattle.scheme.specs.Check.{first, rows_of_count}
-use Rattle.scheme.specs.Tried.{Searched}
+use Rattle.scheme.specs.Tried.{SearchedTo}
 use Rattle.scheme.proofs.BlockLength.{divides_each, each_divides, block_least, least_unique}
 
 -- where every count is above z, the first d − z is positive
@@ -68,7 +68,7 @@ module _ (z : ℕ) (ds : List ℕ) (step : ℕ) where
           omega (arith, next_is)
 
       -- its two ways out: at a multiple that all divide, and past the limit
-      pub search_found : m + step ≤ max_block → divides z ds (m + step) ≡ true → Searched z ds (Found (m + step) (tried + 1))
+      pub search_found : m + step ≤ max_block → divides z ds (m + step) ≡ true → SearchedTo z ds (Some (m + step)) (tried + 1)
       unfolding rows_of_count
       search_found h e =
           let positive : 0 < m + step = omega (arith, step_positive) in
@@ -78,7 +78,7 @@ module _ (z : ℕ) (ds : List ℕ) (step : ℕ) where
             sym (div-eq_of_eq-mul_left step_positive next_is) ∙ ap (λ (d : ℕ). (m + step) / d) s.step_is,
           )
 
-      pub search_past : max_block < m + step → Searched z ds (PastLimit tried)
+      pub search_past : max_block < m + step → SearchedTo z ds None tried
       search_past h =
           let b = block_least z ds above in (
             omega (arith, past (block_length z ds) b.positive b.divided),

@@ -1,8 +1,8 @@
 -- What holds of every scheme that the check accepts: the rows of a block and of each count come out whole, and they grow as the counts fall;
 -- and of the number of a message's blocks.
 -- Assumes nothing.
-use mathlib.Core.Path.{◌≡◌, refl, sym, ap, ◌∙◌}
-use mathlib.Core.List.{List}
+use mathlib.Core.Path.{◌≡◌, refl, sym, ◌∙◌}
+use mathlib.Core.List.{List, [], ◌∷◌}
 use Prim.Native.Nat.{ℕ, ◌+◌, ◌-◌, ◌*◌, ◌<◌, ◌∣◌}
 use native.Mathlib.Nat.{div-mul_cancel, mul-div_cancel'}
 use native.Mathlib.Omega.{arith}
@@ -10,10 +10,8 @@ use lib.ListN.{length, get_or}
 use Rattle.lists.specs.Each.{Each}
 use Rattle.lists.proofs.Each.{each_get_d, each_of}
 use Rattle.lists.proofs.Numbers.{other_factor, factors_differ, positive_factor, round_up_covers, round_up_least}
-use Rattle.scheme.specs.declared.Scheme.{Scheme}
-use Rattle.scheme.specs.declared.SchemeAnswer.{SchemeAnswer}
-use Rattle.scheme.specs.declared.SchemeAnswer.TheVariants.{Accepted}
-use Rattle.scheme.specs.Outcome.{scheme_outcome}
+use Rattle.scheme.specs.declared.accepted.Scheme.{Scheme}
+use Rattle.scheme.specs.Outcome as outcome
 use Rattle.scheme.specs.BlockLength.{block_length, Least}
 use Rattle.scheme.specs.Check.{last, refusal, rows_of_count, rows_of_block, block_count, checked}
 use Rattle.scheme.specs.Facts as facts
@@ -86,18 +84,18 @@ accepted n r z ds e =
       fits = exact n r z ds s f m least;
     }
 
--- for whoever takes the check's answer a apart
-pub accepted-scheme : {a : SchemeAnswer} {s : Scheme} {n r z : ℕ} {ds : List ℕ} → scheme_outcome a ≡ checked n r z ds → a ≡ Accepted s
+-- for whoever was answered a scheme s
+pub accepted-scheme : {s : Scheme} {n r z : ℕ} {ds : List ℕ} → outcome.accepted (s.n ∷ s.r ∷ s.z ∷ s.block ∷ s.rows ∷ []) ≡ checked n r z ds
     → SchemeIs s n r z ds
 unfolding checked
-accepted-scheme e told =
-    let none = answered_none _ _ _ (sym (ap scheme_outcome told) ∙ e) in
+accepted-scheme e =
+    let none = answered_none _ _ _ e in
     let v = none.1 in
     record { passed = none.0; n_is = cc v; r_is = cc v; z_is = cc v; block_is = cc v; rows_is = cc v }
 
--- s is also the scheme of its own fields
-pub scheme_own : (s : Scheme) (n r z : ℕ) (ds : List ℕ) → SchemeIs s n r z ds → SchemeIs s s.n s.r s.z ds
-scheme_own s n r z ds is =
+-- s is also the scheme of its own n, r and z
+pub scheme_fields : (s : Scheme) (n r z : ℕ) (ds : List ℕ) → SchemeIs s n r z ds → SchemeIs s s.n s.r s.z ds
+scheme_fields s n r z ds is =
     record {
       passed = rw (is.n_is, is.r_is, is.z_is) is.passed;
       n_is = refl;
@@ -105,6 +103,18 @@ scheme_own s n r z ds is =
       z_is = refl;
       block_is = rw is.z_is is.block_is;
       rows_is = rw (is.n_is, is.r_is, is.z_is) is.rows_is;
+    }
+
+-- and of its own counts
+pub scheme_own : (s : Scheme) → SchemeIs s s.n s.r s.z s.counts.now
+scheme_own s =
+    record {
+      passed = s.accepted.passed;
+      n_is = refl;
+      r_is = refl;
+      z_is = refl;
+      block_is = s.accepted.block_is;
+      rows_is = s.accepted.rows_is;
     }
 
 pub block_count_least : (m bytes : ℕ) → 0 < m → FewestBlocks m bytes (block_count m bytes)

@@ -8,15 +8,19 @@ use native.Mathlib.Nat.{div-mul-le_self, div-lt_iff_lt-mul}
 use native.Mathlib.Omega.{arith}
 use lib.ListN.{length, get_or, drop}
 use borrow.Author.Tests.{ne_eqb}
-use Rattle.scheme.specs.declared.Scheme.{Scheme}
+use Rattle.std.specs.Prelude.{Result, Ok, Err}
 use Rattle.scheme.specs.declared.TriedAnswer.{TriedAnswer}
-use Rattle.scheme.specs.declared.TriedAnswer.TheVariants.{Accepted, Refused}
+use Rattle.scheme.specs.declared.refusal.Refusal.{Refusal}
+use Rattle.scheme.specs.declared.refusal.Refusal.TheVariants.{BlockLength}
+use Rattle.scheme.specs.declared.accepted.Scheme.{Scheme}
+use Rattle.scheme.specs.Refusals as refusals
 use Rattle.scheme.specs.Limits.{max_block, default_n, default_r, default_z, default_counts}
-use Rattle.scheme.specs.Outcome.{Outcome, accepted, refused, scheme_outcome}
+use Rattle.scheme.specs.Outcome.{Outcome, accepted, refused}
+use Rattle.scheme.specs.SchemeOutcome.{scheme_outcome}
 use Rattle.scheme.specs.BlockLength.{block_length}
 use Rattle.scheme.specs.Check.{first, refusal, rows_of_count, checked}
 use Rattle.scheme.specs.Grounds.{CountsWrong, BlockTooLong, FirstApplies, scheme_grounds}
-use Rattle.scheme.specs.Tried.{beside, without_tried, tried_outcome, tried_at, checked_tried, TriedBy}
+use Rattle.scheme.specs.Tried.{beside, tried_outcome, tried_at, checked_tried, TriedBy}
 use Rattle.scheme.proofs.Answers.{answer-number, scheme-told}
 use Rattle.scheme.proofs.BlockLength.{least_above}
 use Rattle.scheme.proofs.Multiples.{first_positive}
@@ -75,10 +79,9 @@ module _ (n r z : ℕ) (ds : List ℕ) where
       let some : 0 < length ds = omega arith in
       first_positive z ds some (least_above long.1.1)
 
-  pub check-told : (a : TriedAnswer) → tried_outcome a ≡ checked_tried n r z ds → scheme_outcome (without_tried a) ≡ checked n r z ds
+  pub check-told : (a : TriedAnswer) → tried_outcome a ≡ checked_tried n r z ds → scheme_outcome a.answer ≡ checked n r z ds
   unfolding checked_tried
-  check-told (Accepted s t) e = beside-outcome e
-  check-told (Refused q t) e = beside-outcome e
+  check-told a e = beside-outcome e
 
   number-told : (q : ℕ) (vs : List ℕ) {t : ℕ} → beside t (record { number = q; values = vs }) ≡ checked_tried n r z ds → (t ≡ tried_at q z ds) × (q ≡ refusal n r z ds)
   unfolding checked_tried
@@ -87,35 +90,36 @@ module _ (n r z : ℕ) (ds : List ℕ) where
       (rw is (beside-number e), is)
 
   module _ (a : TriedAnswer) (e : tried_outcome a ≡ checked_tried n r z ds) where
-    found-told : (s : Scheme) (t : ℕ) → a ≡ Accepted s t → t * (first ds - z) ≡ s.block
+    told-as : {b : Result Scheme Refusal} → a.answer ≡ b → beside a.tried (scheme_outcome b) ≡ checked_tried n r z ds
+    told-as told = sym (ap (λ (b : Result Scheme Refusal). beside a.tried (scheme_outcome b)) told) ∙ e
+
+    check-as : {b : Result Scheme Refusal} → a.answer ≡ b → scheme_outcome b ≡ checked n r z ds
+    check-as told = sym (ap scheme_outcome told) ∙ check-told a e
+
+    found-told : (s : Scheme) → a.answer ≡ Ok s → a.tried * (first ds - z) ≡ s.block
     unfolding tried_at
-    found-told s t told =
-        let number = number-told 0 _ (sym (ap tried_outcome told) ∙ e) in
-        let is = facts.accepted-scheme (check-told a e) (ap without_tried told) in
+    found-told s told =
+        let number = number-told 0 _ (told-as told) in
+        let is = facts.accepted-scheme {s = s} (check-as told) in
         let whole = facts.accepted n r z ds is.passed in
         cc (number.0, is.block_is, whole.rows_of-count 0 whole.some)
 
-    passed-told : (t : ℕ) → a ≡ Refused 4 t → (t * (first ds - z) ≤ max_block) × (max_block < (t + 1) * (first ds - z))
+    passed-told : a.answer ≡ Err BlockLength → (a.tried * (first ds - z) ≤ max_block) × (max_block < (a.tried + 1) * (first ds - z))
     unfolding tried_at
-    passed-told t told =
-        let number = (number-told 4 [] (sym (ap tried_outcome told) ∙ e)).0 in
-        let positive = step_positive (((check_answers n r z ds (without_tried a) (check-told a e)).refuses 4).0 (ap without_tried told)) in
+    passed-told told =
+        let number = (number-told 4 [] (told-as told)).0 in
+        let positive = step_positive (((check_answers n r z ds a.answer (check-told a e)).refuses BlockLength).0 told) in
         (rw number (div-mul-le_self max_block (first ds - z)), (div-lt_iff_lt-mul positive).0 (omega (arith, number)))
 
-    none_told : (q t : ℕ) → a ≡ Refused q t → q < 4 → t ≡ 0
-    none_told q t told l =
-        let number = number-told q [] (sym (ap tried_outcome told) ∙ e) in
-        let some = scheme-told n r z ds (check-told a e) (ap without_tried told) in
+    none_told : (q : Refusal) → a.answer ≡ Err q → refusals.number q < 4 → a.tried ≡ 0
+    none_told q told l =
+        let number = number-told (refusals.number q) [] (told-as told) in
+        let some = scheme-told n r z ds q (check-as told) in
         number.0 ∙ at_none (omega (arith, some.0, some.1)) l
 
     pub tried_answers : TriedBy n r z ds a
     tried_answers =
-        record {
-          check = check_answers n r z ds (without_tried a) (check-told a e);
-          found = found-told;
-          passed = passed-told;
-          none = none_told;
-        }
+        record { check = check_answers n r z ds a.answer (check-told a e); found = found-told; passed = passed-told; none = none_told }
 
 pub default_tried_answers : (a : TriedAnswer) → tried_outcome a ≡ checked_tried default_n default_r default_z default_counts
     → TriedBy default_n default_r default_z default_counts a

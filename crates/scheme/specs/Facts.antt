@@ -2,7 +2,7 @@
 -- Assumes nothing.
 use Rattle.std.specs.Prelude.{◌≡◌, List, ℕ, ◌+◌, ◌-◌, ◌*◌, ◌≤◌, ◌<◌, length, get_or}
 use Rattle.scheme.specs.Limits.{max_parties, max_counts, max_block}
-use Rattle.scheme.specs.declared.Scheme.{Scheme}
+use Rattle.scheme.specs.declared.accepted.Scheme.{Scheme}
 use Rattle.scheme.specs.BlockLength.{block_length, Least}
 use Rattle.scheme.specs.Check.{first, last, refusal, rows_of_count, rows_of_block}
 

@@ -3,13 +3,11 @@
 -- contracts cite are tests, as the code makes them; that they answer by these words is proved, both ways (`check_answers` in proofs/Grounds.antt, and
 -- for the other calls crates/sharing/specs/Calls.antt), so a test that refused more or less than the table would not prove.
 -- Assumes nothing.
-use Rattle.std.specs.Prelude.{◌≡◌, ◌⊎◌, ◌↔◌, ◌≢◌, List, [], ◌∷◌, ℕ, ◌+◌, ◌-◌, ◌*◌, ◌≤◌, ◌<◌, length, get_or, take}
+use Rattle.std.specs.Prelude.{◌≡◌, ◌⊎◌, ◌↔◌, ◌≢◌, List, [], ◌∷◌, ℕ, ◌+◌, ◌-◌, ◌*◌, ◌≤◌, ◌<◌, length, get_or, take, Result, Ok, Err}
 use Rattle.lists.specs.Each.{Each}
-use Rattle.scheme.specs.declared.Answer.{Answer}
-use Rattle.scheme.specs.declared.Answer.TheVariants.{Value, Refused}
-use Rattle.scheme.specs.declared.Scheme.{Scheme}
-use Rattle.scheme.specs.declared.SchemeAnswer.{SchemeAnswer}
-use Rattle.scheme.specs.declared.SchemeAnswer.TheVariants.{Accepted, Refused as SchemeRefused}
+use Rattle.scheme.specs.declared.refusal.Refusal.{Refusal}
+use Rattle.scheme.specs.declared.accepted.Scheme.{Scheme}
+use Rattle.scheme.specs.Refusals as refusals
 use Rattle.scheme.specs.Limits.{max_parties, max_counts, max_block}
 use Rattle.scheme.specs.BlockLength.{Least}
 use Rattle.scheme.specs.Check.{first, last, refusal}
@@ -31,10 +29,10 @@ FirstApplies q [] = ⊥
 FirstApplies q (g ∷ grounds) = (g.applies × (q ≡ g.number)) ⊎ ((g.applies → ⊥) × FirstApplies q grounds)
 
 -- a call that answers one number: what its answer is, by its grounds and the value that it answers when it is accepted
-pub record AnsweredBy (grounds : List Ground) (value : ℕ) (a : Answer) : Type 0 where
-  pub accepts : ((v : ℕ) × (a ≡ Value v)) ↔ NoneApplies grounds
-  pub refuses : (q : ℕ) → (a ≡ Refused q) ↔ FirstApplies q grounds
-  pub value_is : (v : ℕ) → a ≡ Value v → v ≡ value
+pub record AnsweredBy (grounds : List Ground) (value : ℕ) (a : Result ℕ Refusal) : Type 0 where
+  pub accepts : ((v : ℕ) × (a ≡ Ok v)) ↔ NoneApplies grounds
+  pub refuses : (q : Refusal) → (a ≡ Err q) ↔ FirstApplies (refusals.number q) grounds
+  pub value_is : (v : ℕ) → a ≡ Ok v → v ≡ value
 
 -- ---- the scheme's place
 
@@ -81,11 +79,11 @@ pub record Admissible (n r z : ℕ) (ds : List ℕ) : Type 0 where
 
 -- the check's answer: accepted exactly if the scheme is admissible, and refused with q exactly if that is the first ground that applies. Of an accepted
 -- scheme it has the parameters, m and b
-pub record CheckedBy (n r z : ℕ) (ds : List ℕ) (a : SchemeAnswer) : Type 0 where
-  pub accepts : ((s : Scheme) × (a ≡ Accepted s)) ↔ Admissible n r z ds
-  pub refuses : (q : ℕ) → (a ≡ SchemeRefused q) ↔ FirstApplies q (scheme_grounds n r z ds)
-  pub n_is : (s : Scheme) → a ≡ Accepted s → s.n ≡ n
-  pub r_is : (s : Scheme) → a ≡ Accepted s → s.r ≡ r
-  pub z_is : (s : Scheme) → a ≡ Accepted s → s.z ≡ z
-  pub block_is : (s : Scheme) → a ≡ Accepted s → Least z ds s.block
-  pub rows_is : (s : Scheme) → a ≡ Accepted s → (n - r - z) * s.rows ≡ s.block
+pub record CheckedBy (n r z : ℕ) (ds : List ℕ) (a : Result Scheme Refusal) : Type 0 where
+  pub accepts : ((s : Scheme) × (a ≡ Ok s)) ↔ Admissible n r z ds
+  pub refuses : (q : Refusal) → (a ≡ Err q) ↔ FirstApplies (refusals.number q) (scheme_grounds n r z ds)
+  pub n_is : (s : Scheme) → a ≡ Ok s → s.n ≡ n
+  pub r_is : (s : Scheme) → a ≡ Ok s → s.r ≡ r
+  pub z_is : (s : Scheme) → a ≡ Ok s → s.z ≡ z
+  pub block_is : (s : Scheme) → a ≡ Ok s → Least z ds s.block
+  pub rows_is : (s : Scheme) → a ≡ Ok s → (n - r - z) * s.rows ≡ s.block

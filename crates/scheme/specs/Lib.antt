@@ -1,8 +1,12 @@
 pub mod Limits
+pub mod Refusals
 pub mod Outcome
 pub mod BlockLength
 pub mod Check
+pub mod Accepted
+pub mod SchemeOutcome
 pub mod Padding
+pub mod Forms
 pub mod Facts
 pub mod Grounds
 pub mod Tried

@@ -1,10 +1,8 @@
 -- What a call answers, in document 01's terms: the number of its refusal, 0 when it is accepted, and its values, none on a refusal.
 -- Assumes nothing.
-use Rattle.std.specs.Prelude.{Bool, cond, List, [], ◌∷◌, ℕ, eqb}
-use Rattle.scheme.specs.declared.Answer.{Answer}
-use Rattle.scheme.specs.declared.Answer.TheVariants.{Value, Refused}
-use Rattle.scheme.specs.declared.SchemeAnswer.{SchemeAnswer}
-use Rattle.scheme.specs.declared.SchemeAnswer.TheVariants.{Accepted, Refused as SchemeRefused}
+use Rattle.std.specs.Prelude.{Bool, cond, List, [], ◌∷◌, ℕ, eqb, Result, Ok, Err}
+use Rattle.scheme.specs.declared.refusal.Refusal.{Refusal}
+use Rattle.scheme.specs.Refusals.{number}
 
 pub record Outcome : Type 0 where
   pub number : ℕ
@@ -17,14 +15,9 @@ abbrev pub refused : ℕ → Outcome
 refused q = record { number = q; values = [] }
 
 -- the cases of the answer of a call that answers one number
-abbrev pub outcome : Answer → Outcome
-outcome (Value number) = accepted (number ∷ [])
-outcome (Refused q) = refused q
-
--- the cases of the check's answer: of an accepted scheme n, r, z, the block length m and the rows b
-abbrev pub scheme_outcome : SchemeAnswer → Outcome
-scheme_outcome (Accepted s) = accepted (s.n ∷ s.r ∷ s.z ∷ s.block ∷ s.rows ∷ [])
-scheme_outcome (SchemeRefused q) = refused q
+abbrev pub outcome : Result ℕ Refusal → Outcome
+outcome (Ok value) = accepted (value ∷ [])
+outcome (Err q) = refused (number q)
 
 -- ---- the first refusal that applies
 

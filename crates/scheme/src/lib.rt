@@ -2,141 +2,99 @@
 // counts of parties from which a message is reconstructed.
 #![tactic(auto)]
 
-ghost use Rattle.std.specs.Prelude.{◌≡◌, ◌<◌};
-ghost use Rattle.scheme.specs.Limits.{default_n, default_r, default_z, default_counts};
-ghost use Rattle.scheme.specs.Outcome.{scheme_outcome};
+ghost use Rattle.std.specs.Prelude.{◌≡◌, ◌<◌, IfOk};
+ghost use Rattle.scheme.specs.SchemeOutcome.{scheme_outcome};
 ghost use Rattle.scheme.specs.Check.{checked, counts_refused, rows_of_count, block_count};
-ghost use Rattle.scheme.specs.Tried.{without_tried, tried_outcome, checked_tried};
+ghost use Rattle.scheme.specs.Tried.{tests, tried_outcome, checked_tried};
 
-use crate::search::{Search, block_length};
-use lists::wide;
+use crate::search::block_length;
 
+mod accepted;
+mod forms;
 pub mod limits;
 pub mod padding;
+mod parameters;
 mod readers;
+mod refusal;
 mod search;
 
+pub use accepted::Scheme;
+pub use forms::Form;
+pub use parameters::Parameters;
 pub use readers::{is_count, readers_refused};
-
-// An accepted scheme: its parameters, the block length m and the rows b of a block.
-#[derive(Clone, Copy)]
-pub struct Scheme {
-    pub n: u8,
-    pub r: u8,
-    pub z: u8,
-    pub block: usize,
-    pub rows: usize,
-}
-
-// The answer of the check: the scheme, or the number of the first refusal that applies.
-#[derive(Clone, Copy)]
-pub enum SchemeAnswer {
-    Accepted(Scheme),
-    Refused(u8),
-}
+pub use refusal::Refusal;
 
 // The answer of the check that also tells how many multiples its search for the block length tried
 // (document 02, d): the check's answer, and that number beside it, beside a refusal too.
 #[derive(Clone, Copy)]
-pub enum TriedAnswer {
-    Accepted(Scheme, usize),
-    Refused(u8, usize),
+pub struct TriedAnswer<'a> {
+    pub answer: Result<Scheme<'a>, Refusal>,
+    pub tried: usize,
 }
 
-// The answer of the calls that answer one number: that number, or the number of the first refusal that
-// applies.
-#[derive(Clone, Copy)]
-pub enum Answer {
-    Value(usize),
-    Refused(u8),
-}
-
-// Checks a scheme. Refusal 1: n is below 2 or above its limit. 2: z is 0, or r + z is n or more. 3: the
+// Checks a scheme's parameters. Refusal 1: n is below 2 or above its limit. 2: z is 0, or r + z is n or more. 3: the
 // counts are none or too many, do not fall strictly, start above n or do not end at n - r. 4: the
 // block length is above its limit.
-pub fn check(n: u8, r: u8, z: u8, counts: &[u8]) -> SchemeAnswer
-    ensures { scheme_outcome result ≡ checked n r z counts.now }
+pub fn check<'a>(given: Parameters<'a>) -> Result<Scheme<'a>, Refusal>
+    ensures answer { scheme_outcome result ≡ checked given.entry.n given.entry.r given.entry.z given.entry.counts.now }
+    ensures lent { IfOk result (λ s. s.counts ≡ given.entry.counts) }
 {
-    without_tried(check_tried(n, r, z, counts))
+    check_tried(given).answer
 }
 
 // The same, and how many multiples of the first d - z the search for the block length tried: none on
 // refusals 1 to 3.
-pub fn check_tried(n: u8, r: u8, z: u8, counts: &[u8]) -> TriedAnswer
-    ensures { tried_outcome result ≡ checked_tried n r z counts.now }
+pub fn check_tried<'a>(given: Parameters<'a>) -> TriedAnswer<'a>
+    ensures answer { tried_outcome result ≡ checked_tried given.entry.n given.entry.r given.entry.z given.entry.counts.now }
+    ensures lent { IfOk result.answer (λ s. s.counts ≡ given.entry.counts) }
 {
-    if n < 2 {
-        return TriedAnswer::Refused(1, 0);
+    if let Err(refusal) = tested(given) {
+        return TriedAnswer {
+            answer: Err(refusal),
+            tried: 0,
+        };
     }
-    if limits::MAX_PARTIES < n {
-        return TriedAnswer::Refused(1, 0);
+    let Parameters { n, r, z, counts } = given;
+    let k = n - r - z;
+    let first = counts[0] - z;
+    let search = block_length(usize::from(first), z, counts);
+    let Some(block) = search.block else {
+        return TriedAnswer {
+            answer: Err(Refusal::BlockLength),
+            tried: search.tried,
+        };
+    };
+    let scheme = Scheme {
+        n,
+        r,
+        z,
+        counts,
+        block,
+        rows: block / usize::from(k),
+    };
+    TriedAnswer {
+        answer: Ok(scheme),
+        tried: search.tried,
     }
-    if z == 0 {
-        return TriedAnswer::Refused(2, 0);
+}
+
+// Refusals 1 to 3, which come before the search.
+fn tested(given: Parameters) -> Result<(), Refusal>
+    ensures { result ≡ tests given.entry.n given.entry.r given.entry.z given.entry.counts.now }
+{
+    let Parameters { n, r, z, counts } = given;
+    if n < 2 || limits::MAX_PARTIES < n {
+        return Err(Refusal::Parties);
     }
-    let parties = wide(n);
-    let lost = wide(r) + wide(z);
-    if parties <= lost {
-        return TriedAnswer::Refused(2, 0);
+    let parties = usize::from(n);
+    let lost = usize::from(r) + usize::from(z);
+    if z == 0 || parties <= lost {
+        return Err(Refusal::AbsentOrColluding);
     }
     if counts_refused(n, r, counts) {
-        return TriedAnswer::Refused(3, 0);
+        return Err(Refusal::Counts);
     }
-    let k = parties - lost;
-    let first = wide(counts[0]) - wide(z);
-    match block_length(first, z, counts) {
-        Search::Found(block, tried) => {
-            let scheme = Scheme {
-                n,
-                r,
-                z,
-                block,
-                rows: block / k,
-            };
-            TriedAnswer::Accepted(scheme, tried)
-        }
-        Search::PastLimit(tried) => TriedAnswer::Refused(4, tried),
-    }
-}
-
-// Checks the default scheme.
-pub fn check_default() -> SchemeAnswer
-    ensures { scheme_outcome result ≡ checked default_n default_r default_z default_counts }
-{
-    without_tried(check_tried_default())
-}
-
-// The same, and how many multiples were tried.
-pub fn check_tried_default() -> TriedAnswer
-    ensures { tried_outcome result ≡ checked_tried default_n default_r default_z default_counts }
-{
-    let counts = limits::DEFAULT_COUNTS;
-    check_tried(
-        limits::DEFAULT_N,
-        limits::DEFAULT_R,
-        limits::DEFAULT_Z,
-        &counts,
-    )
-}
-
-// The check's part of the answer.
-fn without_tried(answer: TriedAnswer) -> SchemeAnswer
-    ensures { result ≡ without_tried answer }
-{
-    match answer {
-        TriedAnswer::Accepted(scheme, _) => SchemeAnswer::Accepted(scheme),
-        TriedAnswer::Refused(number, _) => SchemeAnswer::Refused(number),
-    }
-}
-
-// The number of an answer's refusal, 0 when the scheme is accepted.
-pub fn refusal(answer: SchemeAnswer) -> u8
-    ensures { result ≡ (scheme_outcome answer).number }
-{
-    match answer {
-        SchemeAnswer::Accepted(_) => 0,
-        SchemeAnswer::Refused(number) => number,
-    }
+    Ok(())
 }
 
 // P of the count d in a scheme with this block length: the rows of a block that d parties send.
@@ -144,7 +102,7 @@ pub fn refusal(answer: SchemeAnswer) -> u8
 pub fn rows_of_count(block: usize, z: u8, d: usize) -> usize
     ensures { result ≡ rows_of_count block z d }
 {
-    let low = wide(z);
+    let low = usize::from(z);
     if d <= low {
         return 0;
     }
@@ -171,22 +129,17 @@ fn counts_refused(n: u8, r: u8, counts: &[u8]) -> bool
     requires { r < n }
     ensures { result ≡ counts_refused n r counts.now }
 {
-    if counts.len() == 0 {
-        return true;
-    }
-    if limits::MAX_COUNTS < counts.len() {
+    if counts.is_empty() || limits::MAX_COUNTS < counts.len() {
         return true;
     }
     // Each count is to stay below the one before, the first at most n.
-    let mut above = wide(n) + 1;
-    let mut i = 0;
-    while i < counts.len() {
-        let d = wide(counts[i]);
+    let mut above = usize::from(n) + 1;
+    for &count in counts {
+        let d = usize::from(count);
         if above <= d {
             return true;
         }
         above = d;
-        i += 1;
     }
-    above != wide(n) - wide(r)
+    above != usize::from(n - r)
 }

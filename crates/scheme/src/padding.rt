@@ -24,10 +24,7 @@ pub fn most_blocks(block: usize) -> usize
 pub fn blocks_held(most: usize, unit: usize, bytes: usize) -> usize
     ensures { result ≡ blocks_held most unit bytes }
 {
-    if unit == 0 {
-        return 0;
-    }
-    if bytes % unit != 0 {
+    if unit == 0 || bytes % unit != 0 {
         return 0;
     }
     let blocks = bytes / unit;

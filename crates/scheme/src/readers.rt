@@ -7,14 +7,7 @@ ghost use Rattle.scheme.specs.Readers.{readers_refused};
 pub fn is_count(d: usize, counts: &[u8]) -> bool
     ensures { result ≡ occurs d counts.now }
 {
-    let mut i = 0;
-    while i < counts.len() {
-        if d == counts[i] as usize {
-            return true;
-        }
-        i += 1;
-    }
-    false
+    counts.iter().any(|count| d == usize::from(*count))
 }
 
 // Does refusal 7 apply?
@@ -23,17 +16,11 @@ pub fn readers_refused(n: u8, parties: &[u8]) -> bool
 {
     // Each party is to be above the one before, the first above 0.
     let mut below: u8 = 0;
-    let mut i = 0;
-    while i < parties.len() {
-        let party = parties[i];
-        if party <= below {
-            return true;
-        }
-        if n < party {
+    for &party in parties {
+        if party <= below || n < party {
             return true;
         }
         below = party;
-        i += 1;
     }
     false
 }

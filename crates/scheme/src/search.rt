@@ -4,13 +4,12 @@ ghost use Rattle.std.specs.Prelude.{◌≡◌, ℕ, ◌-◌, ◌<◌, length, ge
 ghost use Rattle.scheme.specs.Tried.{Searched};
 
 use crate::limits;
-use lists::wide;
 
-// What the search comes to: the block length, or that it is above the limit; and how many multiples were tried.
+// What the search comes to: the block length, none where it is above the limit; and how many multiples were tried.
 #[derive(Clone, Copy)]
-pub(crate) enum Search {
-    Found(usize, usize),
-    PastLimit(usize),
+pub(crate) struct Search {
+    pub(crate) block: Option<usize>,
+    pub(crate) tried: usize,
 }
 
 // `first` is the first d - z.
@@ -23,16 +22,20 @@ pub(crate) fn block_length(first: usize, z: u8, counts: &[u8]) -> Search
     'search: loop {
         m += first;
         if limits::MAX_BLOCK < m {
-            break 'search Search::PastLimit(tried);
+            break 'search Search { block: None, tried };
         }
         // m is tried: the first d - z divides it, do the others?
         tried += 1;
+        // By hand: document 01 names this form, a `break` with a label and a value out of the inner test.
         let mut i = 1;
         loop {
             if i == counts.len() {
-                break 'search Search::Found(m, tried);
+                break 'search Search {
+                    block: Some(m),
+                    tried,
+                };
             }
-            if m % (wide(counts[i]) - wide(z)) != 0 {
+            if m % usize::from(counts[i] - z) != 0 {
                 break;
             }
             i += 1;

@@ -1,13 +1,13 @@
 -- Every call in words: each test of a call reflects the line of document 01's table at its place, and what a call leaves follows from its answer. And
 -- the words settle a call.
 -- Assumes nothing.
+use Rattle.std.specs.Prelude.{Err, Ok, Result}
 use mathlib.Core.Path.{◌≡◌, refl, sym, ap, ◌∙◌}
 use mathlib.Core.List.{List}
 use Prim.Native.Nat.{ℕ}
 use native.Mathlib.Omega.{arith}
 use lib.ListN.{length}
-use Rattle.scheme.specs.declared.Answer.{Answer}
-use Rattle.scheme.specs.declared.Answer.TheVariants.{Value, Refused}
+use Rattle.scheme.specs.declared.refusal.Refusal.{Refusal}
 use Rattle.scheme.specs.Outcome.{outcome}
 use Rattle.scheme.specs.Grounds.{Ground, AnsweredBy}
 use Rattle.scheme.proofs.Laws.{end, line, above, other, no_count_lem, not-rising, after-scheme, answered_by, told-accepted, told-refused, kept}
@@ -35,13 +35,13 @@ split_in_words p message keys before a after C =
 
 -- ---- prefix
 
-hands_back : (p : Parameters) (message d : ℕ) (share : List ℕ) (a : Answer) → outcome a ≡ prefix_answer p message d (length share)
+hands_back : (p : Parameters) (message d : ℕ) (share : List ℕ) (a : Result ℕ Refusal) → outcome a ≡ prefix_answer p message d (length share)
     → HandsBack share a (prefix_of p message d share)
 unfolding prefix_answer prefix_of
-hands_back p message d share (Value bytes) e =
-    let told = told-accepted (Value bytes) _ _ e refl in
+hands_back p message d share (Ok bytes) e =
+    let told = told-accepted (Ok bytes) _ _ e refl in
     (rw (told.0, told.1), prefix_whole p message d share told.0 ∙ sym told.1)
-hands_back p message d share (Refused number) e = sym (kept _ (told-refused (Refused number) _ _ e refl))
+hands_back p message d share (Err q) e = sym (kept _ (told-refused (Err q) _ _ e refl))
 
 pub prefix_in_words : (p : Parameters) → EveryPrefix p
 unfolding prefix_answer prefix_refusal prefix_length
@@ -53,10 +53,10 @@ prefix_in_words p message d share a part e is =
 
 -- ---- basis
 
-tabulates : (p : Parameters) (parties : List ℕ) (a : Answer) → outcome a ≡ basis_answer p parties → Tabulates p parties a (basis_of p parties)
+tabulates : (p : Parameters) (parties : List ℕ) (a : Result ℕ Refusal) → outcome a ≡ basis_answer p parties → Tabulates p parties a (basis_of p parties)
 unfolding basis_answer
-tabulates p parties (Value d) e = basis_for p parties (told-accepted (Value d) _ _ e refl).0
-tabulates p parties (Refused number) e = basis-zero p parties (λ none. omega (arith, told-refused (Refused number) _ _ e refl))
+tabulates p parties (Ok d) e = basis_for p parties (told-accepted (Ok d) _ _ e refl).0
+tabulates p parties (Err q) e = basis-zero p parties (λ none. omega (arith, told-refused (Err q) _ _ e refl))
 
 pub basis_in_words : (p : Parameters) → EveryBasis p
 unfolding basis_answer basis_refusal
@@ -96,31 +96,31 @@ default_reconstruct_in_words = reconstruct_in_words default_parameters
 -- ---- the words settle a call
 
 -- no two answers fit the same lines and value
-pub one_answer : {grounds : List Ground} {v : ℕ} (a a' : Answer) → AnsweredBy grounds v a → AnsweredBy grounds v a' → a ≡ a'
-one_answer (Value w) a' A A' =
+pub one_answer : {grounds : List Ground} {v : ℕ} (a a' : Result ℕ Refusal) → AnsweredBy grounds v a → AnsweredBy grounds v a' → a ≡ a'
+one_answer (Ok w) a' A A' =
     let other = A'.accepts.1 (A.accepts.0 (w, refl)) in
-    ap Value (A.value_is w refl ∙ sym (A'.value_is other.0 other.1)) ∙ sym other.1
-one_answer (Refused q) a' A A' = sym ((A'.refuses q).1 ((A.refuses q).0 refl))
+    ap Ok (A.value_is w refl ∙ sym (A'.value_is other.0 other.1)) ∙ sym other.1
+one_answer (Err q) a' A A' = sym ((A'.refuses q).1 ((A.refuses q).0 refl))
 
 -- and with one answer, no two outputs
-one_split : (p : Parameters) (message keys before : List ℕ) (a : Answer) (after after' : List ℕ)
+one_split : (p : Parameters) (message keys before : List ℕ) (a : Result ℕ Refusal) (after after' : List ℕ)
     → Wrote p message keys before a after → Wrote p message keys before a after' → after ≡ after'
-one_split p message keys before (Value bytes) after after' W W' = W.0 ∙ sym W'.0
-one_split p message keys before (Refused number) after after' W W' = W ∙ sym W'
+one_split p message keys before (Ok bytes) after after' W W' = W.0 ∙ sym W'.0
+one_split p message keys before (Err q) after after' W W' = W ∙ sym W'
 
-pub one_part : (share : List ℕ) (a : Answer) (part part' : List ℕ) → HandsBack share a part → HandsBack share a part' → part ≡ part'
-one_part share (Value bytes) part part' H H' = H.0 ∙ sym H'.0
-one_part share (Refused number) part part' H H' = H ∙ sym H'
+pub one_part : (share : List ℕ) (a : Result ℕ Refusal) (part part' : List ℕ) → HandsBack share a part → HandsBack share a part' → part ≡ part'
+one_part share (Ok bytes) part part' H H' = H.0 ∙ sym H'.0
+one_part share (Err q) part part' H H' = H ∙ sym H'
 
-one_table : (p : Parameters) (parties : List ℕ) (a : Answer) (table table' : List (List ℕ))
+one_table : (p : Parameters) (parties : List ℕ) (a : Result ℕ Refusal) (table table' : List (List ℕ))
     → Tabulates p parties a table → Tabulates p parties a table' → table ≡ table'
-one_table p parties (Value d) table table' T T' = basis_for_unique T T'
-one_table p parties (Refused number) table table' T T' = all_zero_unique T T'
+one_table p parties (Ok d) table table' T T' = basis_for_unique T T'
+one_table p parties (Err q) table table' T T' = all_zero_unique T T'
 
-one_opening : (p : Parameters) (message : ℕ) (parties prefixes before : List ℕ) (a : Answer) (after after' : List ℕ)
+one_opening : (p : Parameters) (message : ℕ) (parties prefixes before : List ℕ) (a : Result ℕ Refusal) (after after' : List ℕ)
     → Opens p message parties prefixes before a after → Opens p message parties prefixes before a after' → after ≡ after'
-one_opening p message parties prefixes before (Value used) after after' O O' = O.output ∙ sym O'.output
-one_opening p message parties prefixes before (Refused number) after after' O O' = O ∙ sym O'
+one_opening p message parties prefixes before (Ok used) after after' O O' = O.output ∙ sym O'.output
+one_opening p message parties prefixes before (Err q) after after' O O' = O ∙ sym O'
 
 pub words_settle : (p : Parameters) → WordsSettle p
 words_settle p =

@@ -1,6 +1,7 @@
 -- The call for the lengths of a message in words: each test reflects the line of the table at its place. And with the lengths that it answers the tests of a
 -- split and of an opening come to those of the slices' lengths.
 -- Assumes nothing.
+use Rattle.std.specs.Prelude.{Err, Ok, Result}
 use mathlib.Core.Path.{◌≡◌, refl, sym, ap, ◌∙◌}
 use mathlib.Core.Bool.{Bool, true, false, not}
 use mathlib.Core.Logic.{◌≢◌}
@@ -12,33 +13,32 @@ use lib.Dec.{ltb, eqb}
 use lib.ListN.{length, drop}
 use borrow.Author.Tests.{le-ltb, eq-eqb, ne_eqb}
 use Rattle.lists.specs.Each.{occurs}
-use Rattle.scheme.specs.declared.Answer.{Answer}
+use Rattle.scheme.specs.Refusals as refusals
+use Rattle.scheme.specs.declared.refusal.Refusal.{Refusal}
 use Rattle.scheme.specs.Limits.{max_message}
 use Rattle.scheme.specs.Outcome.{outcome, number_if, first_of, answer}
 use Rattle.scheme.specs.Check.{refusal}
 use Rattle.scheme.specs.Padding.{most_padded, blocks_held}
 use Rattle.scheme.specs.Grounds.{NoneApplies, FirstApplies, AnsweredBy, ground}
 use Rattle.scheme.specs.Readers.{readers_refused, Rising}
-use Rattle.scheme.proofs.Laws.{Tested, end, line, above, other, after-scheme, answered_by, answered_none, accepted_none, refused-first, none_first, first-once, first-before, first-passed, readers_pass, padded_count_positive, padded_count_most, held_of}
+use Rattle.scheme.proofs.Laws.{number_same, Tested, end, line, above, other, after-scheme, answered_by, answered_none, accepted_none, refused-first, none_first, first-once, first-before, first-passed, readers_pass, padded_count_positive, padded_count_most, held_of}
 use Rattle.staircase.specs.Parameters.{Parameters, default_parameters, block, prefix_rows, padded_blocks_of, key_bytes, share_bytes, output_bytes}
 use Rattle.staircase.specs.Exactness.{prefix_bytes, opened_string}
 use Rattle.staircase.proofs.Sizes.{block_some, sent_some}
 use Rattle.family.proofs.Padding.{no_end_lem}
 use Rattle.lengths.specs.declared.MessageLengths.{MessageLengths}
-use Rattle.lengths.specs.declared.LengthsAnswer.{LengthsAnswer}
-use Rattle.lengths.specs.declared.LengthsAnswer.TheVariants.{Lengths, Refused}
-use Rattle.lengths.specs.Lengths.{lengths_values, lengths_outcome, lengths_refusal, lengths_for}
+use Rattle.lengths.specs.Lengths.{lengths_values, lengths_outcome, lengths_refusal, lengths_for, lengths_in}
 use Rattle.lengths.proofs.Laws.{none_refused}
 use Rattle.dealer.specs.Split.{split_refusal, split_answer}
 use Rattle.dealer.specs.SplitPadded.{split_padded_refusal, split_padded_answer}
-use Rattle.key_pool.specs.declared.Form.{Form}
-use Rattle.key_pool.specs.declared.Form.TheVariants.{Earlier, Padded}
-use Rattle.key_pool.specs.Forms.{blocks_in}
+use Rattle.scheme.specs.declared.forms.Form.{Form}
+use Rattle.scheme.specs.declared.forms.Form.TheVariants.{Earlier, Padded}
+use Rattle.dealer.specs.Forms.{blocks_in}
 use Rattle.reader.specs.Reconstruct.{reconstruct_refusal, reconstruct_answer}
 use Rattle.reader.specs.ReconstructPadded.{blocks_sent, opened_padded, reconstruct_padded_refusal, reconstruct_padded_answer}
 use Rattle.sharing.specs.Calls.{split_lines}
 use Rattle.sharing.specs.PaddedCalls.{split_padded_lines}
-use Rattle.sharing.specs.Lengths.{lengths_in, opened_in, lengths_lines, LengthsAre, EveryLengths, LengthsWordsSettle, SplitsWith, OpensWith, Serves, LengthsServe}
+use Rattle.sharing.specs.Lengths.{opened_in, lengths_lines, LengthsAre, EveryLengths, LengthsWordsSettle, SplitsWith, OpensWith, Serves, LengthsServe}
 use Rattle.sharing.proofs.Calls.{split_in_words}
 use Rattle.sharing.proofs.PaddedCalls.{split_padded_in_words, padded_answered_by}
 
@@ -53,13 +53,13 @@ module _ (form : Form) (p : Parameters) (message : ℕ) where
   tested : Tested (refusal p.n p.r p.z p.counts ∷ number_if 5 (ltb max_message message) ∷ []) (lengths_lines p message)
   tested = after-scheme p.n p.r p.z p.counts (line above end)
 
-  module _ {a : LengthsAnswer} (e : lengths_outcome a ≡ lengths_in form p message) where
+  module _ {a : Result MessageLengths Refusal} (e : lengths_outcome a ≡ lengths_in form p message) where
     -- the first refusal that is told
-    first-told : {q : ℕ} → a ≡ Refused q → FirstApplies q (lengths_lines p message)
+    first-told : {q : Refusal} → a ≡ Err q → FirstApplies (refusals.number q) (lengths_lines p message)
     unfolding lengths_for lengths_refusal
-    first-told {q} told = refused-first tested _ q _ (sym (ap lengths_outcome told) ∙ e ∙ in-form form p message)
+    first-told {q} told = refused-first tested _ (refusals.number q) _ (sym (ap lengths_outcome told) ∙ e ∙ in-form form p message)
 
-    module _ {l : MessageLengths} (told : a ≡ Lengths l) where
+    module _ {l : MessageLengths} (told : a ≡ Ok l) where
       none_told : NoneApplies (lengths_lines p message)
       unfolding lengths_for lengths_refusal
       none_told = accepted_none tested _ (lengths_values l) (sym (ap lengths_outcome told) ∙ e ∙ in-form form p message)
@@ -71,13 +71,15 @@ module _ (form : Form) (p : Parameters) (message : ℕ) where
           let vs = v.1 in
           (v.0, record { blocks_is = cc vs; keys_is = cc vs; share_is = cc vs; output_is = cc vs; opened_is = cc vs })
 
-  accepted_by : (a : LengthsAnswer) → lengths_outcome a ≡ lengths_in form p message → NoneApplies (lengths_lines p message) → (l : MessageLengths) × (a ≡ Lengths l)
-  accepted_by (Lengths l) e n = (l, refl)
-  accepted_by (Refused q) e n = absurd (none_first (lengths_lines p message) q n (first-told e refl))
+  accepted_by : (a : Result MessageLengths Refusal) → lengths_outcome a ≡ lengths_in form p message → NoneApplies (lengths_lines p message) → (l : MessageLengths) × (a ≡ Ok l)
+  accepted_by (Ok l) e n = (l, refl)
+  accepted_by (Err q) e n = absurd (none_first (lengths_lines p message) (refusals.number q) n (first-told e refl))
 
-  refused_by : (q : ℕ) (a : LengthsAnswer) → lengths_outcome a ≡ lengths_in form p message → FirstApplies q (lengths_lines p message) → a ≡ Refused q
-  refused_by q (Lengths l) e f = absurd (none_first (lengths_lines p message) q (none_told e refl) f)
-  refused_by q (Refused k) e f = ap Refused (first-once (lengths_lines p message) k q (first-told e refl) f)
+  refused_by : (q : Refusal) (a : Result MessageLengths Refusal) → lengths_outcome a ≡ lengths_in form p message
+      → FirstApplies (refusals.number q) (lengths_lines p message) → a ≡ Err q
+  refused_by q (Ok l) e f = absurd (none_first (lengths_lines p message) (refusals.number q) (none_told e refl) f)
+  refused_by q (Err k) e f =
+      ap Err (number_same k q (first-once (lengths_lines p message) (refusals.number k) (refusals.number q) (first-told e refl) f))
 
 pub lengths_in_words : (form : Form) (p : Parameters) → EveryLengths form p
 lengths_in_words form p message a e =
@@ -97,13 +99,14 @@ one_lengths l l' L L' =
     same
 
 pub lengths_words_settle : (form : Form) (p : Parameters) → LengthsWordsSettle form p
-lengths_words_settle form p message (Lengths l) (Lengths l') W W' = ap Lengths (one_lengths l l' (W.values_are l refl) (W'.values_are l' refl))
-lengths_words_settle form p message (Refused q) (Refused k) W W' =
-    ap Refused (first-once (lengths_lines p message) q k ((W.refuses q).0 refl) ((W'.refuses k).0 refl))
-lengths_words_settle form p message (Lengths l) (Refused k) W W' =
-    absurd (none_first (lengths_lines p message) k (W.accepts.0 (l, refl)) ((W'.refuses k).0 refl))
-lengths_words_settle form p message (Refused q) (Lengths l) W W' =
-    absurd (none_first (lengths_lines p message) q (W'.accepts.0 (l, refl)) ((W.refuses q).0 refl))
+lengths_words_settle form p message (Ok l) (Ok l') W W' = ap Ok (one_lengths l l' (W.values_are l refl) (W'.values_are l' refl))
+lengths_words_settle form p message (Err q) (Err k) W W' =
+    ap Err
+    (number_same q k (first-once (lengths_lines p message) (refusals.number q) (refusals.number k) ((W.refuses q).0 refl) ((W'.refuses k).0 refl)))
+lengths_words_settle form p message (Ok l) (Err k) W W' =
+    absurd (none_first (lengths_lines p message) (refusals.number k) (W.accepts.0 (l, refl)) ((W'.refuses k).0 refl))
+lengths_words_settle form p message (Err q) (Ok l) W W' =
+    absurd (none_first (lengths_lines p message) (refusals.number q) (W'.accepts.0 (l, refl)) ((W.refuses q).0 refl))
 
 -- ---- the lengths serve
 
@@ -127,7 +130,7 @@ module _ (p : Parameters) (message : ℕ) (none : lengths_refusal p message ≡ 
 
 -- a split of N blocks, in either form
 module _ (form : Form) (p : Parameters) (message : ℕ) (l : MessageLengths) (none : lengths_refusal p message ≡ 0) (are : LengthsAre form p message l) where
-  split-left : (keys out : ℕ) (a : Answer)
+  split-left : (keys out : ℕ) (a : Result ℕ Refusal)
       → let N : ℕ = blocks_in form p message in
       outcome a
       ≡ answer
@@ -185,19 +188,19 @@ opens_with Earlier = opens-earlier
 opens_with Padded = opens-padded
 
 -- where the lengths are refused so is a split, whose own lines come after
-refused_alike : (form : Form) (p : Parameters) (message q : ℕ) → lengths_outcome (Refused q) ≡ lengths_in form p message → Serves form p message (Refused q)
+refused_alike : (form : Form) (p : Parameters) (message : ℕ) (q : Refusal) → lengths_outcome (Err q) ≡ lengths_in form p message → Serves form p message (Err q)
 refused_alike Earlier p message q e text keys before a after long C =
     ((split_in_words p text keys before a after C).answered.refuses q).1
-    (first-before (lengths_lines p (length text)) (drop 5 (split_lines p (length text) (length keys) (length before))) q (rw (← long) at (first-told Earlier p message e refl)))
+    (first-before (lengths_lines p (length text)) (drop 5 (split_lines p (length text) (length keys) (length before))) (refusals.number q) (rw (← long) at (first-told Earlier p message e refl)))
 refused_alike Padded p message q e text keys before a after long C =
     ((split_padded_in_words p text keys before a after C).answered.refuses q).1
-    (first-before (lengths_lines p (length text)) (drop 5 (split_padded_lines p (length text) (length keys) (length before))) q (rw (← long) at (first-told Padded p message e refl)))
+    (first-before (lengths_lines p (length text)) (drop 5 (split_padded_lines p (length text) (length keys) (length before))) (refusals.number q) (rw (← long) at (first-told Padded p message e refl)))
 
 pub lengths_serve : (form : Form) (p : Parameters) → LengthsServe form p
-lengths_serve form p message (Lengths l) e =
+lengths_serve form p message (Ok l) e =
     let told = told-values form p message e refl in
     (splits_with form p message l told.0 told.1, opens_with form p message l told.0 told.1)
-lengths_serve form p message (Refused q) e = refused_alike form p message q e
+lengths_serve form p message (Err q) e = refused_alike form p message q e
 
 -- ---- the forms without a scheme
 

@@ -5,7 +5,7 @@ pub mod Calls
 pub mod PaddedSecrecy
 mod Changes
 pub mod PoolSecrecy
-pub mod PaddedOpening
+pub mod OpeningPadded
 pub mod PaddedCalls
 pub mod PoolCalls
 pub mod LengthsCalls

@@ -1,5 +1,6 @@
 -- Demand 2 as one statement about a call of the opener: what its answer says of the parties and the lengths, and exactness for them.
 -- Assumes nothing.
+use Rattle.std.specs.Prelude.{Err, Ok}
 use mathlib.Core.Path.{◌≡◌, refl, sym, ap, ◌∙◌}
 use mathlib.Core.Bool.{true}
 use mathlib.Core.List.{List}
@@ -8,7 +9,6 @@ use lib.ListN.{length, take}
 use lib.Seq.{length-take-le}
 use Rattle.lists.specs.Each.{Each, Byte, occurs}
 use Rattle.lists.proofs.Each.{occurs-place}
-use Rattle.scheme.specs.declared.Answer.TheVariants.{Value, Refused}
 use Rattle.scheme.proofs.Laws.{accepted, told-accepted, told-refused, kept, readers_rise, parties_distinct}
 use Rattle.family.proofs.Message.{blocks_cover}
 use Rattle.staircase.specs.Parameters.{Parameters, AcceptedScheme, default_parameters, block, prefix_rows, blocks_of}
@@ -34,8 +34,8 @@ opened_of {p} {message} {parties} {prefixes} r bytes =
 
 pub exact_calls : (p : Parameters) → ExactCalls p
 unfolding reconstruct_answer reconstruct_output prefix_bytes
-exact_calls p message parties prefixes before (Value used) after bytes C =
-    let told = told-accepted (Value used) _ _ C.0 refl in
+exact_calls p message parties prefixes before (Ok used) after bytes C =
+    let told = told-accepted (Ok used) _ _ C.0 refl in
     let r = range_given p message 0 message parties (length prefixes) (length before) (whole_refusal p message parties (length prefixes) (length before) ∙ told.0) in
     let opened = opened_of r bytes in
     let output : after ≡ take message (opened_string p parties (blocks_of p message) prefixes) = C.1 ∙ rw told.0 in
@@ -47,7 +47,7 @@ exact_calls p message parties prefixes before (Value used) after bytes C =
       used_all = told.1 ∙ sym r.sent;
       rows_of-count = rows_of p r.good (length parties) r.count;
     }
-exact_calls p message parties prefixes before (Refused number) after bytes C = C.1 ∙ sym (kept _ (told-refused (Refused number) _ _ C.0 refl))
+exact_calls p message parties prefixes before (Err q) after bytes C = C.1 ∙ sym (kept _ (told-refused (Err q) _ _ C.0 refl))
 
 -- the form without a scheme
 pub default_exact_calls : ExactCalls default_parameters

@@ -1,6 +1,7 @@
 -- Every call on padded messages in words: each test of a call reflects the line of the table at its place, and what a call leaves follows from its answer. And
 -- the words settle a call.
 -- Assumes nothing.
+use Rattle.std.specs.Prelude.{Err, Ok, Result}
 use mathlib.Core.Path.{◌≡◌, refl, sym, ap, ◌∙◌}
 use mathlib.Core.Bool.{true, false, not}
 use mathlib.Core.List.{List, [], ◌∷◌}
@@ -13,12 +14,12 @@ use borrow.Author.Tests.{not-false}
 use Rattle.lists.specs.Each.{occurs}
 use Rattle.lists.proofs.Numbers.{positive_factor}
 use Rattle.lists.proofs.Tests.{test_positive}
-use Rattle.scheme.specs.declared.Answer.{Answer}
-use Rattle.scheme.specs.declared.Answer.TheVariants.{Value, Refused}
+use Rattle.scheme.specs.Refusals as refusals
+use Rattle.scheme.specs.declared.refusal.Refusal.{Refusal}
 use Rattle.scheme.specs.Outcome.{outcome, number_if, first_of, answer}
 use Rattle.scheme.specs.Padding.{most_padded, NoMessageGives}
 use Rattle.scheme.specs.Grounds.{Ground, ground, NoneApplies, FirstApplies, AnsweredBy}
-use Rattle.scheme.proofs.Laws.{Reflects, Tested, end, line, line_then, above, other, no_count_lem, not-rising, none_gives, after-scheme, after-accepted, answered_by, none_first, first-once, accepted_none, refused-first, told-accepted, told-refused, kept, held_quotient}
+use Rattle.scheme.proofs.Laws.{number_same, Reflects, Tested, end, line, line_then, above, other, no_count_lem, not-rising, none_gives, after-scheme, after-accepted, answered_by, none_first, first-once, accepted_none, refused-first, told-accepted, told-refused, kept, held_quotient}
 use Rattle.family.specs.Padding.{end_refused}
 use Rattle.family.proofs.Padding.{no_end_lem, end_is}
 use Rattle.staircase.specs.Parameters.{Parameters, AcceptedScheme, default_parameters, block, rows, prefix_rows, padded_blocks_of}
@@ -27,15 +28,14 @@ use Rattle.staircase.proofs.Sizes.{block_some, rows_some, sent_some}
 use Rattle.dealer.specs.SplitPadded.{split_padded_refusal, split_padded_answer}
 use Rattle.party.specs.PrefixPadded.{blocks_kept, prefix_padded_refusal, prefix_padded_length, prefix_padded_answer, prefix_padded_of}
 use Rattle.party.proofs.Laws.{padded_quotient, padded_whole}
-use Rattle.reader.specs.declared.padded.PaddedAnswer.{PaddedAnswer}
-use Rattle.reader.specs.declared.padded.PaddedAnswer.TheVariants.{Opened, Refused as PaddedRefused}
+use Rattle.reader.specs.declared.padded.PaddedOpening.{PaddedOpening}
 use Rattle.reader.specs.ReconstructPadded.{padded_outcome, blocks_sent, opened_padded, reconstruct_padded_refusal, reconstruct_padded_answer}
 use Rattle.sharing.specs.Calls.{HandsBack}
 use Rattle.sharing.specs.PaddedSecrecy.{PaddedWrote}
-use Rattle.sharing.specs.PaddedOpening.{OpenedPaddedExactly}
+use Rattle.sharing.specs.OpeningPadded.{OpenedPaddedExactly}
 use Rattle.sharing.specs.PaddedCalls.{EverySplitPadded, prefix_padded_lines, EveryPrefixPadded, prefix_blocks, no_end, reconstruct_padded_lines, PaddedAnsweredBy, ReconstructPaddedInWords, EveryReconstructPadded, PaddedWordsSettle}
 use Rattle.sharing.proofs.PaddedSecrecy.{padded_call_wrote}
-use Rattle.sharing.proofs.PaddedOpening.{padded_exact_calls}
+use Rattle.sharing.proofs.OpeningPadded.{padded_exact_calls}
 use Rattle.sharing.proofs.Calls.{one_answer, one_part}
 
 pub split_padded_in_words : (p : Parameters) → EverySplitPadded p
@@ -49,14 +49,14 @@ split_padded_in_words p message keys before a after C =
 -- ---- prefix
 
 module _ (p : Parameters) (d : ℕ) (share : List ℕ) where
-  padded_hands_back : (a : Answer) → outcome a ≡ prefix_padded_answer p d (length share) → HandsBack share a (prefix_padded_of p d share)
+  padded_hands_back : (a : Result ℕ Refusal) → outcome a ≡ prefix_padded_answer p d (length share) → HandsBack share a (prefix_padded_of p d share)
   unfolding prefix_padded_answer prefix_padded_of
-  padded_hands_back (Value bytes) e =
-      let told = told-accepted (Value bytes) _ _ e refl in
+  padded_hands_back (Ok bytes) e =
+      let told = told-accepted (Ok bytes) _ _ e refl in
       (rw (told.0, told.1), padded_whole p d share told.0 ∙ sym told.1)
-  padded_hands_back (Refused number) e = sym (kept _ (told-refused (Refused number) _ _ e refl))
+  padded_hands_back (Err q) e = sym (kept _ (told-refused (Err q) _ _ e refl))
 
-  prefix_answered : (a : Answer) → outcome a ≡ prefix_padded_answer p d (length share) → AnsweredBy (prefix_padded_lines p d (length share)) (prefix_padded_length p d (length share)) a
+  prefix_answered : (a : Result ℕ Refusal) → outcome a ≡ prefix_padded_answer p d (length share) → AnsweredBy (prefix_padded_lines p d (length share)) (prefix_padded_length p d (length share)) a
   unfolding prefix_padded_answer prefix_padded_refusal blocks_kept
   prefix_answered a e =
       answered_by
@@ -81,19 +81,25 @@ prefix_padded_in_words p d share a part e is =
 
 -- the answer with two numbers, by tests and grounds
 module _ {qs : List ℕ} {grounds : List Ground} (tested : Tested qs grounds) (used message : ℕ) where
-  opened_by : (a : PaddedAnswer) → padded_outcome a ≡ answer (first_of qs) (used ∷ message ∷ []) → NoneApplies grounds → (u : ℕ) × (l : ℕ) × (a ≡ Opened u l)
-  opened_by (Opened u l) e n = (u, l, refl)
-  opened_by (PaddedRefused q) e n = absurd (none_first grounds q n (refused-first tested used q (message ∷ []) e))
+  opened_by : (a : Result PaddedOpening Refusal) → padded_outcome a ≡ answer (first_of qs) (used ∷ message ∷ []) → NoneApplies grounds → (opening : PaddedOpening) × (a ≡ Ok opening)
+  opened_by (Ok opening) e n = (opening, refl)
+  opened_by (Err q) e n = absurd (none_first grounds (refusals.number q) n (refused-first tested used (refusals.number q) (message ∷ []) e))
 
-  padded_refused_by : (q : ℕ) (a : PaddedAnswer) → padded_outcome a ≡ answer (first_of qs) (used ∷ message ∷ []) → FirstApplies q grounds → a ≡ PaddedRefused q
-  padded_refused_by q (Opened u l) e f = absurd (none_first grounds q (accepted_none tested (used ∷ message ∷ []) (u ∷ l ∷ []) e) f)
-  padded_refused_by q (PaddedRefused k) e f = ap PaddedRefused (first-once grounds k q (refused-first tested used k (message ∷ []) e) f)
+  padded_refused_by : (q : Refusal) (a : Result PaddedOpening Refusal) → padded_outcome a ≡ answer (first_of qs) (used ∷ message ∷ [])
+      → FirstApplies (refusals.number q) grounds → a ≡ Err q
+  padded_refused_by q (Ok opening) e f =
+      absurd (none_first grounds (refusals.number q) (accepted_none tested (used ∷ message ∷ []) (opening.used ∷ opening.length ∷ []) e) f)
+  padded_refused_by q (Err k) e f =
+      ap Err (number_same k q (first-once grounds (refusals.number k) (refusals.number q) (refused-first tested used (refusals.number k) (message ∷ []) e) f))
 
-  pub padded_answered_by : (a : PaddedAnswer) → padded_outcome a ≡ answer (first_of qs) (used ∷ message ∷ []) → PaddedAnsweredBy grounds a
+  pub padded_answered_by : (a : Result PaddedOpening Refusal) → padded_outcome a ≡ answer (first_of qs) (used ∷ message ∷ []) → PaddedAnsweredBy grounds a
   padded_answered_by a e =
       record {
-        accepts = (λ told. accepted_none tested (used ∷ message ∷ []) (told.0 ∷ told.1 ∷ []) (sym (ap padded_outcome told.2) ∙ e), opened_by a e);
-        refuses = λ q. (λ told. refused-first tested used q (message ∷ []) (sym (ap padded_outcome told) ∙ e), padded_refused_by q a e);
+        accepts = (
+          λ told. accepted_none tested (used ∷ message ∷ []) ((told.0).used ∷ (told.0).length ∷ []) (sym (ap padded_outcome told.1) ∙ e),
+          opened_by a e,
+        );
+        refuses = λ q. (λ told. refused-first tested used (refusals.number q) (message ∷ []) (sym (ap padded_outcome told) ∙ e), padded_refused_by q a e);
       }
 
 -- what is tested for 9
@@ -146,10 +152,10 @@ default_reconstruct_padded_in_words = reconstruct_padded_in_words default_parame
 
 -- ---- the words settle a call
 
-one_padded_split : (p : Parameters) (message keys before : List ℕ) (a : Answer) (after after' : List ℕ)
+one_padded_split : (p : Parameters) (message keys before : List ℕ) (a : Result ℕ Refusal) (after after' : List ℕ)
     → PaddedWrote p message keys before a after → PaddedWrote p message keys before a after' → after ≡ after'
-one_padded_split p message keys before (Value bytes) after after' W W' = W.0 ∙ sym W'.0
-one_padded_split p message keys before (Refused number) after after' W W' = W ∙ sym W'
+one_padded_split p message keys before (Ok bytes) after after' W W' = W.0 ∙ sym W'.0
+one_padded_split p message keys before (Err q) after after' W W' = W ∙ sym W'
 
 -- two openings of the same prefixes: as many blocks, so the same output, and so the same end
 module _ (p : Parameters) (parties prefixes : List ℕ) {used used' message message' : ℕ} {after after' : List ℕ}
@@ -179,7 +185,10 @@ module _ (p : Parameters) (parties prefixes : List ℕ) {used used' message mess
   same_after : after ≡ after'
   same_after = O.output ∙ ap (λ (N : ℕ). opened_string p parties N prefixes) same_blocks ∙ sym O'.output
 
-  same_opened : Opened used message ≡ Opened used' message'
+  abbrev opening_of : ℕ → ℕ → PaddedOpening
+  opening_of u l = record { used = u; length = l }
+
+  same_opened : opening_of used message ≡ opening_of used' message'
   same_opened =
       let N : ℕ = padded_blocks_of p message in
       let some : 0 < N = positive_factor N (block p) (N * block p) some_blocks refl in
@@ -188,17 +197,21 @@ module _ (p : Parameters) (parties prefixes : List ℕ) {used used' message mess
       sym (end_is (block p) N after some message O.ends) ∙ end_is (block p) N after some message' (rw (same_blocks, same_after) O'.ends) in
       rw (used-same, ends_same)
 
-one_padded_opening : (p : Parameters) (parties prefixes before : List ℕ) (a a' : PaddedAnswer) (after after' : List ℕ)
+one_padded_opening : (p : Parameters) (parties prefixes before : List ℕ) (a a' : Result PaddedOpening Refusal) (after after' : List ℕ)
     → ReconstructPaddedInWords p parties prefixes before a after → ReconstructPaddedInWords p parties prefixes before a' after'
     → (a ≡ a') × (after ≡ after')
-one_padded_opening p parties prefixes before (Opened u l) (Opened u' l') after after' R R' =
-    (same_opened p parties prefixes R.wrote R'.wrote, same_after p parties prefixes R.wrote R'.wrote)
-one_padded_opening p parties prefixes before (PaddedRefused q) (PaddedRefused k) after after' R R' =
-    (ap PaddedRefused (first-once (reconstruct_padded_lines p parties prefixes (length before)) q k ((R.answered.refuses q).0 refl) ((R'.answered.refuses k).0 refl)), R.wrote ∙ sym R'.wrote)
-one_padded_opening p parties prefixes before (Opened u l) (PaddedRefused k) after after' R R' =
-    absurd (none_first (reconstruct_padded_lines p parties prefixes (length before)) k (R.answered.accepts.0 (u, l, refl)) ((R'.answered.refuses k).0 refl))
-one_padded_opening p parties prefixes before (PaddedRefused q) (Opened u l) after after' R R' =
-    absurd (none_first (reconstruct_padded_lines p parties prefixes (length before)) q (R'.answered.accepts.0 (u, l, refl)) ((R.answered.refuses q).0 refl))
+one_padded_opening p parties prefixes before (Ok opening) (Ok opening') after after' R R' =
+    (ap Ok (same_opened p parties prefixes R.wrote R'.wrote), same_after p parties prefixes R.wrote R'.wrote)
+one_padded_opening p parties prefixes before (Err q) (Err k) after after' R R' =
+    let lines = reconstruct_padded_lines p parties prefixes (length before) in
+    let same = first-once lines (refusals.number q) (refusals.number k) ((R.answered.refuses q).0 refl) ((R'.answered.refuses k).0 refl) in
+    (ap Err (number_same q k same), R.wrote ∙ sym R'.wrote)
+one_padded_opening p parties prefixes before (Ok opening) (Err k) after after' R R' =
+    absurd
+    (none_first (reconstruct_padded_lines p parties prefixes (length before)) (refusals.number k) (R.answered.accepts.0 (opening, refl)) ((R'.answered.refuses k).0 refl))
+one_padded_opening p parties prefixes before (Err q) (Ok opening) after after' R R' =
+    absurd
+    (none_first (reconstruct_padded_lines p parties prefixes (length before)) (refusals.number q) (R'.answered.accepts.0 (opening, refl)) ((R.answered.refuses q).0 refl))
 
 pub padded_words_settle : (p : Parameters) → PaddedWordsSettle p
 padded_words_settle p =

@@ -1,6 +1,7 @@
 -- Demand 3 for padded messages: the splitter gives nothing away to at most z parties, not even which of two lengths with equally many blocks it was, and
 -- how a call ends depends on the scheme, the blocks and the lengths of keys and output alone.
 -- Assumes nothing.
+use Rattle.std.specs.Prelude.{Err, Ok, Result}
 use mathlib.Core.Path.{◌≡◌, refl, sym, ap, ◌∙◌}
 use mathlib.Core.List.{List}
 use Prim.Native.Nat.{ℕ}
@@ -8,8 +9,7 @@ use lib.ListN.{length}
 use borrow.Author.Tests.{le-ltb}
 use Rattle.lists.proofs.Once.{once, once-distinct}
 use Rattle.scheme.specs.Limits.{max_message}
-use Rattle.scheme.specs.declared.Answer.{Answer}
-use Rattle.scheme.specs.declared.Answer.TheVariants.{Value, Refused}
+use Rattle.scheme.specs.declared.refusal.Refusal.{Refusal}
 use Rattle.scheme.proofs.Laws.{default_accepted, told-accepted, told-refused, kept}
 use Rattle.staircase.specs.Parameters.{Parameters, AcceptedScheme, default_parameters, padded_blocks_of, output_bytes}
 use Rattle.staircase.specs.Shares.{padded_shares, PaddedKeyString}
@@ -46,15 +46,15 @@ padded_secrecy p A first second h₁ h₂ short short' e parties in-range few =
 -- ---- how a call ends
 
 -- what a call wrote
-pub padded_call_wrote : (p : Parameters) (message keys before : List ℕ) (answer : Answer) (after : List ℕ) → SplitPaddedCall p message keys before answer after
+pub padded_call_wrote : (p : Parameters) (message keys before : List ℕ) (answer : Result ℕ Refusal) (after : List ℕ) → SplitPaddedCall p message keys before answer after
     → PaddedWrote p message keys before answer after
 unfolding split_padded_answer split_padded_output
-padded_call_wrote p message keys before (Value bytes) after C =
-    let none = (told-accepted (Value bytes) _ _ C.0 refl).0 in
+padded_call_wrote p message keys before (Ok bytes) after C =
+    let none = (told-accepted (Ok bytes) _ _ C.0 refl).0 in
     (C.1 ∙ padded-written p message keys before none, ap length C.1 ∙ padded_output_long p message keys before)
-padded_call_wrote p message keys before (Refused number) after C = C.1 ∙ sym (kept _ (told-refused (Refused number) _ _ C.0 refl))
+padded_call_wrote p message keys before (Err q) after C = C.1 ∙ sym (kept _ (told-refused (Err q) _ _ C.0 refl))
 
-module _ (p : Parameters) (message message' keys keys' before before' after after' : List ℕ) (answer answer' : Answer)
+module _ (p : Parameters) (message message' keys keys' before before' after after' : List ℕ) (answer answer' : Result ℕ Refusal)
     (C : SplitPaddedCall p message keys before answer after) (C' : SplitPaddedCall p message' keys' before' answer' after')
     (k : length keys ≡ length keys') (b : length before ≡ length before') where
   end_alike : split_padded_answer p (length message) (length keys') (length before') ≡ split_padded_answer p (length message') (length keys') (length before')

@@ -1,15 +1,15 @@
 -- The splits from a key pool in words: each test reflects the line of the table at its place, and what a call leaves follows from its answer. And the words
 -- settle a call.
 -- Assumes nothing.
+use Rattle.std.specs.Prelude.{Err, Ok, Result}
 use mathlib.Core.Path.{◌≡◌, refl, sym, ap, ◌∙◌}
 use mathlib.Core.List.{List}
 use Prim.Native.Nat.{ℕ}
 use lib.ListN.{length}
-use Rattle.scheme.specs.declared.Answer.{Answer}
-use Rattle.scheme.specs.declared.Answer.TheVariants.{Value, Refused}
+use Rattle.scheme.specs.declared.refusal.Refusal.{Refusal}
 use Rattle.scheme.proofs.Laws.{end, line, above, other, either, after-scheme, answered_by, told-accepted, told-refused, kept}
 use Rattle.staircase.specs.Parameters.{Parameters, default_parameters}
-use Rattle.key_pool.specs.declared.Form.{Form}
+use Rattle.scheme.specs.declared.forms.Form.{Form}
 use Rattle.key_pool.specs.declared.KeyPool.{KeyPool}
 use Rattle.key_pool.specs.Pool.{pool_refused, pool_refusal, pool_answer, pool_output, PoolSplitCall}
 use Rattle.key_pool.proofs.Laws.{written, output_long, moves, stays}
@@ -17,23 +17,23 @@ use Rattle.sharing.specs.PoolCalls.{PoolLeft, EveryPoolSplit, PoolWordsSettle}
 use Rattle.sharing.proofs.Calls.{one_answer}
 
 module _ (form : Form) (p : Parameters) (message bytes : List ℕ) (pool : KeyPool) (before : List ℕ) where
-  left_by : (a : Answer) (after : List ℕ) (next : KeyPool) → PoolSplitCall form p message bytes pool before a after next → PoolLeft form p message bytes pool before a after next
+  left_by : (a : Result ℕ Refusal) (after : List ℕ) (next : KeyPool) → PoolSplitCall form p message bytes pool before a after next → PoolLeft form p message bytes pool before a after next
   unfolding pool_answer pool_output
-  left_by (Value share) after next C =
-      let none = (told-accepted (Value share) _ _ C.answered refl).0 in (
+  left_by (Ok share) after next C =
+      let none = (told-accepted (Ok share) _ _ C.answered refl).0 in (
         C.wrote ∙ written form p message bytes pool before none,
         ap length C.wrote ∙ output_long form p message bytes pool before,
         C.moved ∙ moves form p _ _ pool _ none,
       )
-  left_by (Refused number) after next C =
-      let some = told-refused (Refused number) _ _ C.answered refl in
+  left_by (Err q) after next C =
+      let some = told-refused (Err q) _ _ C.answered refl in
       (C.wrote ∙ sym (kept _ some), C.moved ∙ stays form p _ _ pool _ some)
 
   -- with one answer, one output and one record
-  one_left : (a : Answer) (after after' : List ℕ) (next next' : KeyPool) → PoolLeft form p message bytes pool before a after next
+  one_left : (a : Result ℕ Refusal) (after after' : List ℕ) (next next' : KeyPool) → PoolLeft form p message bytes pool before a after next
       → PoolLeft form p message bytes pool before a after' next' → (after ≡ after') × (next ≡ next')
-  one_left (Value share) after after' next next' L L' = (L.0 ∙ sym L'.0, L.2 ∙ sym L'.2)
-  one_left (Refused number) after after' next next' L L' = (L.0 ∙ sym L'.0, L.1 ∙ sym L'.1)
+  one_left (Ok share) after after' next next' L L' = (L.0 ∙ sym L'.0, L.2 ∙ sym L'.2)
+  one_left (Err q) after after' next next' L L' = (L.0 ∙ sym L'.0, L.1 ∙ sym L'.1)
 
 pub pool_split_in_words : (form : Form) (p : Parameters) → EveryPoolSplit form p
 unfolding pool_answer pool_refusal pool_refused

@@ -2,6 +2,7 @@
 -- bytes that no call takes left as they are, these are the change of the whole pool. And how a run goes depends on the forms, the schemes and the lengths
 -- alone.
 -- Assumes nothing.
+use Rattle.std.specs.Prelude.{Result}
 use mathlib.Core.Path.{◌≡◌, refl, sym, ap, ◌∙◌}
 use mathlib.Core.Logic.{⊎_elim}
 use mathlib.Core.List.{List, [], ◌∷◌, ◌++◌, append_assoc}
@@ -13,17 +14,17 @@ use lib.ListN.{length, take, drop, replicate, length-append, length-replicate, t
 use lib.Seq.{take_at, drop_at}
 use borrow.Author.Tests.{le-ltb, ltb-false}
 use Rattle.lists.specs.Each.{Each, Byte}
-use Rattle.scheme.specs.declared.Answer.{Answer}
+use Rattle.scheme.specs.declared.refusal.Refusal.{Refusal}
 use Rattle.scheme.specs.Limits.{max_message}
 use Rattle.scheme.specs.Outcome.{outcome}
 use Rattle.family.specs.Message.{Bytes}
 use Rattle.staircase.specs.Parameters.{Parameters, AcceptedScheme, Party, output_bytes}
 use Rattle.staircase.specs.Shares.{part_of}
 use Rattle.dealer.proofs.Laws.{written as split-written, padded-written}
-use Rattle.key_pool.specs.declared.Form.{Form}
-use Rattle.key_pool.specs.declared.Form.TheVariants.{Earlier, Padded}
+use Rattle.scheme.specs.declared.forms.Form.{Form}
+use Rattle.scheme.specs.declared.forms.Form.TheVariants.{Earlier, Padded}
 use Rattle.key_pool.specs.declared.KeyPool.{KeyPool}
-use Rattle.key_pool.specs.Forms.{blocks_in, shares_in}
+use Rattle.dealer.specs.Forms.{blocks_in, shares_in}
 use Rattle.key_pool.specs.Pool.{needed, pool_refusal, pool_answer, pool_after, next_bytes, moved_by, PoolSplitCall}
 use Rattle.key_pool.specs.Run.{Call, needs, Step, calls_of, IsAccepted, Promised, Run, loaded}
 use Rattle.key_pool.proofs.Laws.{passed, written as pool-written, moves, stays, output_long, refusal_of, told_none, none_told}
@@ -83,7 +84,7 @@ module _ (p : Parameters) (A : AcceptedScheme p) (first second : List ℕ) (b₁
 -- ---- one call
 
 -- what is promised of it
-abbrev PromisedOf : Call → List ℕ → KeyPool → Answer → List ℕ → KeyPool → Type 0
+abbrev PromisedOf : Call → List ℕ → KeyPool → Result ℕ Refusal → List ℕ → KeyPool → Type 0
 PromisedOf c bytes start a after next = PoolSplitCall c.form c.scheme c.message bytes start c.before a after next
 
 like_refusal : (c d : Call) (size : ℕ) (pool : KeyPool) → LikeCall c d → refusal_of c size pool ≡ refusal_of d size pool
@@ -185,7 +186,7 @@ module _ (size : ℕ) (start : KeyPool) (inside : start.position ≤ size) (c d 
       clear' = rw (whole size start.position used' (change rest) inside u' (changes.into rest B), ← like_refusal c d size start like) accepts
 
       -- what they write
-      module _ (a a' : Answer) (after after' : List ℕ) (next next' : KeyPool) (Q : PromisedOf c (used ++ rest) start a after next) (Q' : PromisedOf d (used' ++ change rest) start a' after' next') where
+      module _ (a a' : Result ℕ Refusal) (after after' : List ℕ) (next next' : KeyPool) (Q : PromisedOf c (used ++ rest) start a after next) (Q' : PromisedOf d (used' ++ change rest) start a' after' next') where
         wrote : after ≡ shares_in c.form c.scheme c.message keys
         wrote = Q.wrote ∙ pool-written c.form c.scheme c.message (used ++ rest) start c.before clear ∙ ap (shares_in c.form c.scheme c.message) taken
 

@@ -1,6 +1,7 @@
 -- The opener for a range in words: each test of a call reflects the line of the table at its place, what an accepted call wrote is the range of the full
 -- opening, and of what was split the message's; the words settle a call, and rows that are not taken change none.
 -- Assumes nothing.
+use Rattle.std.specs.Prelude.{Err, Ok, Result}
 use mathlib.Core.Path.{◌≡◌, refl, sym, ap, ◌∙◌}
 use mathlib.Core.Bool.{not}
 use mathlib.Core.List.{List, ◌∷◌, []}
@@ -9,8 +10,7 @@ use native.Mathlib.Omega.{arith}
 use lib.ListN.{length, take, drop, length-drop}
 use lib.Seq.{length-take-le}
 use Rattle.lists.specs.Each.{Each, Byte}
-use Rattle.scheme.specs.declared.Answer.{Answer}
-use Rattle.scheme.specs.declared.Answer.TheVariants.{Value, Refused}
+use Rattle.scheme.specs.declared.refusal.Refusal.{Refusal}
 use Rattle.scheme.specs.Outcome.{accepted}
 use Rattle.scheme.proofs.Laws.{default_accepted, end, line, above, other, no_count_lem, not-rising, after-scheme, answered_by, told-accepted, told-refused, kept, readers_pass, parties_distinct, done, pass, pass_within, pass_false, pass_same, numbered, answer_none}
 use Rattle.family.proofs.Message.{blocks_cover}
@@ -31,13 +31,13 @@ use Rattle.sharing.proofs.Secrecy.{same_answer}
 -- ---- what an accepted call did
 
 module _ (p : Parameters) (message start long : ℕ) (parties prefixes before : List ℕ) (used : ℕ) (after : List ℕ) (bytes : Each Byte prefixes)
-    (C : RangeCall p message start long parties prefixes before (Value used) after) where
+    (C : RangeCall p message start long parties prefixes before (Ok used) after) where
   abbrev B : List ℕ
   B = opened_string p parties (blocks_of p message) prefixes
 
   told : (range_refusal p message start long parties (length prefixes) (length before) ≡ 0) × (used ≡ length parties * taken_rows p (length parties) start long * blocks_of p message)
   unfolding range_answer
-  told = told-accepted (Value used) _ _ C.0 refl
+  told = told-accepted (Ok used) _ _ C.0 refl
 
   given : RangeGiven p message start long parties (length prefixes) (length before)
   given = range_given p message start long parties (length prefixes) (length before) told.0
@@ -73,7 +73,7 @@ module _ (p : Parameters) (message start long : ℕ) (parties prefixes before : 
         inside = given.inside;
         long_is = ap length output ∙ length-take-le long _ (rw length-drop (omega (arith, covers)));
         full = λ before' whole a room F. (
-          same_answer a (Value (length prefixes)) (F.0 ∙ answer_none _ _ (full_accepts before' room) ∙ ap (λ (x : ℕ). accepted (x ∷ [])) (sym given.sent)),
+          same_answer a (Ok (length prefixes)) (F.0 ∙ answer_none _ _ (full_accepts before' room) ∙ ap (λ (x : ℕ). accepted (x ∷ [])) (sym given.sent)),
           cut ∙ ap (λ (l : List ℕ). take long (drop start l)) (sym (F.1 ∙ rw (full_accepts before' room))),
         );
         used_is = told.1;
@@ -81,11 +81,11 @@ module _ (p : Parameters) (message start long : ℕ) (parties prefixes before : 
         used_most = rw (told.1, given.sent) (rows.most (blocks_of p message));
       }
 
-opens_range : (p : Parameters) (message start long : ℕ) (parties prefixes before : List ℕ) (a : Answer) (after : List ℕ) → Each Byte prefixes
+opens_range : (p : Parameters) (message start long : ℕ) (parties prefixes before : List ℕ) (a : Result ℕ Refusal) (after : List ℕ) → Each Byte prefixes
     → RangeCall p message start long parties prefixes before a after → OpensRange p message start long parties prefixes before a after
 unfolding range_answer range_output
-opens_range p message start long parties prefixes before (Value used) after bytes C = opened_range p message start long parties prefixes before used after bytes C
-opens_range p message start long parties prefixes before (Refused number) after bytes C = C.1 ∙ sym (kept _ (told-refused (Refused number) _ _ C.0 refl))
+opens_range p message start long parties prefixes before (Ok used) after bytes C = opened_range p message start long parties prefixes before used after bytes C
+opens_range p message start long parties prefixes before (Err q) after bytes C = C.1 ∙ sym (kept _ (told-refused (Err q) _ _ C.0 refl))
 
 -- ---- the table in words
 
@@ -103,10 +103,10 @@ range_in_words p message start long parties prefixes before a after bytes C =
 pub default_range_in_words : EveryRange default_parameters
 default_range_in_words = range_in_words default_parameters
 
-one_range : (p : Parameters) (message start long : ℕ) (parties prefixes before : List ℕ) (a : Answer) (after after' : List ℕ)
+one_range : (p : Parameters) (message start long : ℕ) (parties prefixes before : List ℕ) (a : Result ℕ Refusal) (after after' : List ℕ)
     → OpensRange p message start long parties prefixes before a after → OpensRange p message start long parties prefixes before a after' → after ≡ after'
-one_range p message start long parties prefixes before (Value used) after after' O O' = O.output ∙ sym O'.output
-one_range p message start long parties prefixes before (Refused number) after after' O O' = O ∙ sym O'
+one_range p message start long parties prefixes before (Ok used) after after' O O' = O.output ∙ sym O'.output
+one_range p message start long parties prefixes before (Err q) after after' O O' = O ∙ sym O'
 
 pub range_settled : (p : Parameters) → RangeSettled p
 range_settled p message start long parties prefixes before a a' after after' R R' =

@@ -1,6 +1,7 @@
 -- The call that rebuilds a share in words: each test of a call reflects the line of the table at its place, what an accepted one wrote is the share that
 -- the blocks and keys of all shares give the wanted party, and whom one names that finds no such blocks and keys. And the words settle a call.
 -- Assumes nothing.
+use Rattle.std.specs.Prelude.{Err, Ok, Result}
 use mathlib.Core.Path.{◌≡◌, refl, sym, ap, ◌∙◌}
 use mathlib.Core.Bool.{Bool, true, false, cond, not, true≢false}
 use mathlib.Core.Logic.{inl, ⊎_elim, ◌≢◌}
@@ -17,20 +18,22 @@ use Rattle.lists.specs.Differing.{differing}
 use Rattle.lists.proofs.Differing.{differing_empty}
 use Rattle.lists.proofs.Tests.{neither, either, lt_or_le, test_positive}
 use Rattle.lists.proofs.Each.{each_append}
+use Rattle.scheme.specs.declared.refusal.Refusal.{Refusal}
+use Rattle.scheme.specs.Refusals as refusals
 use Rattle.scheme.specs.Limits.{max_message}
 use Rattle.scheme.specs.Readers.{readers_refused, Rising}
 use Rattle.scheme.specs.Padding.{most_padded, blocks_held}
 use Rattle.scheme.specs.Outcome.{Outcome, accepted, refused, number_if, first_of}
 use Rattle.scheme.specs.Check.{refusal}
 use Rattle.scheme.specs.Grounds.{Ground, ground, NoneApplies, FirstApplies}
-use Rattle.scheme.proofs.Laws.{accepted as scheme-facts, block_count_least, Reflects, Tested, end, line, line_then, above, other, both, not-rising, after-accepted, none_first, first-once, first_other, first-before, first-after, none_applies, first_applies, kept, first_none, first_if, readers_rise, parties_distinct, padded_count_least, padded-count_of, padded_count_most, most_full, held-told, held_of}
+use Rattle.scheme.proofs.Laws.{number_same, number_between, accepted as scheme-facts, block_count_least, Reflects, Tested, end, line, line_then, above, other, both, not-rising, after-accepted, none_first, first-once, first_other, first-before, first-after, none_applies, first_applies, kept, first_none, first_if, readers_rise, parties_distinct, padded_count_least, padded-count_of, padded_count_most, most_full, held-told, held_of}
 use Rattle.family.specs.Message.{Bytes}
 use Rattle.staircase.specs.Parameters.{Parameters, AcceptedScheme, Party, default_parameters, block, rows, blocks_of, padded_blocks_of, share_bytes}
 use Rattle.staircase.proofs.Sizes.{block_some, rows_some}
 use Rattle.agreement.specs.Agreement.{Agree, enough, rebuilt, agrees, named, Lent, Agreement}
 use Rattle.agreement.proofs.Laws.{agreement, names_one, names_none, rebuilt_long}
-use Rattle.reader.specs.declared.rebuilding.RebuildAnswer.{RebuildAnswer}
-use Rattle.reader.specs.declared.rebuilding.RebuildAnswer.TheVariants.{Rebuilt, Disagreeing, Refused}
+use Rattle.reader.specs.declared.rebuilding.RebuildRefusal.{RebuildRefusal}
+use Rattle.reader.specs.declared.rebuilding.RebuildRefusal.TheVariants.{Disagreeing, Refused}
 use Rattle.agreement.specs.Rebuild.{disagreeing, blocks_lent, wanted_refused, held_refused, lent_refusal, rebuild_answer, rebuild_output}
 use Rattle.reader.specs.Rebuild.{rebuild_outcome, RebuildCall}
 use Rattle.sharing.specs.Calls.{scheme_lines, not_rising}
@@ -255,53 +258,58 @@ module _ (p : Parameters) (parties shares : List ℕ) (wanted held out : ℕ) wh
 -- ---- the answer
 
 -- what an answer tells of the first refusal q before 18, of the test t for 18, and of the values of an accepted call and of 18
-abbrev Tells : ℕ → Bool → ℕ → ℕ → RebuildAnswer → Type 0
-Tells q t different party (Rebuilt d) = (q ≡ 0) × (t ≡ true) × (d ≡ different)
-Tells q t different party (Disagreeing s) = (q ≡ 0) × (t ≡ false) × (s ≡ party)
-Tells q t different party (Refused k) = (0 < q) × (q ≡ k)
+abbrev Tells : ℕ → Bool → ℕ → ℕ → Result ℕ RebuildRefusal → Type 0
+Tells q t different party (Ok d) = (q ≡ 0) × (t ≡ true) × (d ≡ different)
+Tells q t different party (Err (Disagreeing s)) = (q ≡ 0) × (t ≡ false) × (s ≡ party)
+Tells q t different party (Err (Refused k)) = (0 < q) × (q ≡ refusals.number k)
 
-tells_passed : (t : Bool) (different party : ℕ) (a : RebuildAnswer)
+tells_passed : (t : Bool) (different party : ℕ) (a : Result ℕ RebuildRefusal)
     → rebuild_outcome a ≡ cond t (accepted (different ∷ [])) (disagreeing party) → Tells 0 t different party a
-tells_passed true different party (Rebuilt d) e = (refl, refl, ap (λ (o : Outcome). get_or o.values 0 0) e)
-tells_passed false different party (Rebuilt d) e = absurd (let n : ◌≡◌ {A = ℕ} 0 18 = ap (λ (o : Outcome). o.number) e in omega arith)
-tells_passed true different party (Disagreeing s) e = absurd (let n : ◌≡◌ {A = ℕ} 18 0 = ap (λ (o : Outcome). o.number) e in omega arith)
-tells_passed false different party (Disagreeing s) e = (refl, refl, ap (λ (o : Outcome). get_or o.values 0 0) e)
-tells_passed true different party (Refused k) e = absurd (let n : ◌≡◌ {A = ℕ} 0 1 = ap (λ (o : Outcome). length o.values) e in omega arith)
-tells_passed false different party (Refused k) e = absurd (let n : ◌≡◌ {A = ℕ} 0 1 = ap (λ (o : Outcome). length o.values) e in omega arith)
+tells_passed true different party (Ok d) e = (refl, refl, ap (λ (o : Outcome). get_or o.values 0 0) e)
+tells_passed false different party (Ok d) e = absurd (let n : ◌≡◌ {A = ℕ} 0 18 = ap (λ (o : Outcome). o.number) e in omega arith)
+tells_passed true different party (Err (Disagreeing s)) e = absurd (let n : ◌≡◌ {A = ℕ} 18 0 = ap (λ (o : Outcome). o.number) e in omega arith)
+tells_passed false different party (Err (Disagreeing s)) e = (refl, refl, ap (λ (o : Outcome). get_or o.values 0 0) e)
+tells_passed true different party (Err (Refused k)) e = absurd (let n : ◌≡◌ {A = ℕ} 0 1 = ap (λ (o : Outcome). length o.values) e in omega arith)
+tells_passed false different party (Err (Refused k)) e = absurd (let n : ◌≡◌ {A = ℕ} 0 1 = ap (λ (o : Outcome). length o.values) e in omega arith)
 
-tells_refused : (q : ℕ) (t : Bool) (different party : ℕ) (a : RebuildAnswer) → rebuild_outcome a ≡ refused (suc q) → Tells (suc q) t different party a
-tells_refused q t different party (Rebuilt d) e = absurd (let n : 0 ≡ suc q = ap (λ (o : Outcome). o.number) e in omega arith)
-tells_refused q t different party (Disagreeing s) e = absurd (let n : ◌≡◌ {A = ℕ} 1 0 = ap (λ (o : Outcome). length o.values) e in omega arith)
-tells_refused q t different party (Refused k) e = (omega arith, sym (ap (λ (o : Outcome). o.number) e))
+tells_refused : (q : ℕ) (t : Bool) (different party : ℕ) (a : Result ℕ RebuildRefusal) → rebuild_outcome a ≡ refused (suc q) → Tells (suc q) t different party a
+tells_refused q t different party (Ok d) e = absurd (let n : 0 ≡ suc q = ap (λ (o : Outcome). o.number) e in omega arith)
+tells_refused q t different party (Err (Disagreeing s)) e = absurd (let n : ◌≡◌ {A = ℕ} 1 0 = ap (λ (o : Outcome). length o.values) e in omega arith)
+tells_refused q t different party (Err (Refused k)) e = (omega arith, sym (ap (λ (o : Outcome). o.number) e))
 
-tells : (q : ℕ) (t : Bool) (different party : ℕ) (a : RebuildAnswer)
+tells : (q : ℕ) (t : Bool) (different party : ℕ) (a : Result ℕ RebuildRefusal)
     → rebuild_outcome a ≡ cond (eqb q 0) (cond t (accepted (different ∷ [])) (disagreeing party)) (refused q) → Tells q t different party a
 tells zero t different party a e = tells_passed t different party a e
 tells (suc q) t different party a e = tells_refused q t different party a (e ∙ sym (kept {k = suc q} _ (omega arith)))
 
 -- what an answer says of the lines; all else that the record of it says follows
-abbrev LineOf : List Ground → RebuildAnswer → Type 0
-LineOf grounds (Rebuilt d) = NoneApplies grounds
-LineOf grounds (Disagreeing s) = FirstApplies 18 grounds
-LineOf grounds (Refused k) = FirstApplies k grounds × (k ≢ 18)
+abbrev LineOf : List Ground → Result ℕ RebuildRefusal → Type 0
+LineOf grounds (Ok d) = NoneApplies grounds
+LineOf grounds (Err (Disagreeing s)) = FirstApplies 18 grounds
+LineOf grounds (Err (Refused k)) = FirstApplies (refusals.number k) grounds
+
+-- 18 is no number of another refusal
+never_18 : (q : Refusal) → refusals.number q ≡ 18 → ⊥
+never_18 q e = omega (arith, (number_between q).1)
 
 module _ (grounds : List Ground) where
-  accepted_by : (a : RebuildAnswer) → LineOf grounds a → NoneApplies grounds → (d : ℕ) × (a ≡ Rebuilt d)
-  accepted_by (Rebuilt d) l n = (d, refl)
-  accepted_by (Disagreeing s) l n = absurd (none_first grounds 18 n l)
-  accepted_by (Refused k) l n = absurd (none_first grounds k n l.0)
+  accepted_by : (a : Result ℕ RebuildRefusal) → LineOf grounds a → NoneApplies grounds → (d : ℕ) × (a ≡ Ok d)
+  accepted_by (Ok d) l n = (d, refl)
+  accepted_by (Err (Disagreeing s)) l n = absurd (none_first grounds 18 n l)
+  accepted_by (Err (Refused k)) l n = absurd (none_first grounds (refusals.number k) n l)
 
-  disagreed_by : (a : RebuildAnswer) → LineOf grounds a → FirstApplies 18 grounds → (s : ℕ) × (a ≡ Disagreeing s)
-  disagreed_by (Rebuilt d) l f = absurd (none_first grounds 18 l f)
-  disagreed_by (Disagreeing s) l f = (s, refl)
-  disagreed_by (Refused k) l f = absurd (l.1 (first-once grounds k 18 l.0 f))
+  disagreed_by : (a : Result ℕ RebuildRefusal) → LineOf grounds a → FirstApplies 18 grounds → (s : ℕ) × (a ≡ Err (Disagreeing s))
+  disagreed_by (Ok d) l f = absurd (none_first grounds 18 l f)
+  disagreed_by (Err (Disagreeing s)) l f = (s, refl)
+  disagreed_by (Err (Refused k)) l f = absurd (never_18 k (first-once grounds (refusals.number k) 18 l f))
 
-  refused_by : (q : ℕ) (a : RebuildAnswer) → LineOf grounds a → FirstApplies q grounds × (q ≢ 18) → a ≡ Refused q
-  refused_by q (Rebuilt d) l f = absurd (none_first grounds q l f.0)
-  refused_by q (Disagreeing s) l f = absurd (f.1 (first-once grounds q 18 f.0 l))
-  refused_by q (Refused k) l f = ap Refused (first-once grounds k q l.0 f.0)
+  refused_by : (q : Refusal) (a : Result ℕ RebuildRefusal) → LineOf grounds a → FirstApplies (refusals.number q) grounds → a ≡ Err (Refused q)
+  refused_by q (Ok d) l f = absurd (none_first grounds (refusals.number q) l f)
+  refused_by q (Err (Disagreeing s)) l f = absurd (never_18 q (first-once grounds (refusals.number q) 18 f l))
+  refused_by q (Err (Refused k)) l f =
+      ap (λ (x : Refusal). Err (Refused x)) (number_same k q (first-once grounds (refusals.number k) (refusals.number q) l f))
 
-  answered_of : (a : RebuildAnswer) → LineOf grounds a → RebuildAnsweredBy grounds a
+  answered_of : (a : Result ℕ RebuildRefusal) → LineOf grounds a → RebuildAnsweredBy grounds a
   answered_of a l =
       record {
         accepts = (λ t. rw t.1 at l, accepted_by a l);
@@ -316,7 +324,7 @@ module _ (p : Parameters) (parties shares : List ℕ) (wanted : ℕ) (held befor
   abbrev q : ℕ
   q = lent_refusal p parties (length shares) wanted (length held) (length before)
 
-  call_told : (a : RebuildAnswer) → rebuild_outcome a ≡ rebuild_answer p parties shares wanted held (length before)
+  call_told : (a : Result ℕ RebuildRefusal) → rebuild_outcome a ≡ rebuild_answer p parties shares wanted held (length before)
       → Tells q (agrees p parties lent_blocks shares) (differing held (rebuilt p parties lent_blocks shares wanted)) (named p parties lent_blocks shares) a
   unfolding rebuild_answer
   call_told a e = tells q (agrees p parties lent_blocks shares) _ _ a e
@@ -325,34 +333,34 @@ module _ (p : Parameters) (parties shares : List ℕ) (wanted : ℕ) (held befor
   unfolding lent_refusal
   at-passed e = passed p parties shares wanted (length held) (length before) e
 
-  did : (a : RebuildAnswer) (after : List ℕ) → RebuildCall p parties shares wanted held before a after → Rebuilds p parties shares wanted held before a after
+  did : (a : Result ℕ RebuildRefusal) (after : List ℕ) → RebuildCall p parties shares wanted held before a after → Rebuilds p parties shares wanted held before a after
   unfolding rebuild_output
-  did (Rebuilt d) after C =
-      let T = call_told (Rebuilt d) C.0 in
+  did (Ok d) after C =
+      let T = call_told (Ok d) C.0 in
       let P = at-passed T.0 in
       let is : after ≡ rebuilt p parties lent_blocks shares wanted = C.1 ∙ rw (T.0, T.1) in
       rw (is, T.2, P.blocks_told) (rebuilt_exactly p parties shares wanted (length held) (length before) bytes P held (rw P.blocks_told at T.1))
-  did (Disagreeing s) after C =
-      let T = call_told (Disagreeing s) C.0 in
+  did (Err (Disagreeing s)) after C =
+      let T = call_told (Err (Disagreeing s)) C.0 in
       let P = at-passed T.0 in
       let not-all = disagree p parties shares wanted (length held) (length before) bytes P (rw P.blocks_told at T.1) in
       (rw (T.2, P.blocks_told) (named_exactly p parties shares wanted (length held) (length before) bytes P not-all), C.1 ∙ rw (T.0, T.1))
-  did (Refused k) after C = C.1 ∙ sym (kept _ (call_told (Refused k) C.0).0)
+  did (Err (Refused k)) after C = C.1 ∙ sym (kept _ (call_told (Err (Refused k)) C.0).0)
 
-  line_of : (a : RebuildAnswer) → rebuild_outcome a ≡ rebuild_answer p parties shares wanted held (length before)
+  line_of : (a : Result ℕ RebuildRefusal) → rebuild_outcome a ≡ rebuild_answer p parties shares wanted held (length before)
       → LineOf (rebuild_lines p parties shares wanted (length held) (length before)) a
   unfolding lent_refusal
-  line_of (Rebuilt d) e =
-      let T = call_told (Rebuilt d) e in
+  line_of (Ok d) e =
+      let T = call_told (Ok d) e in
       let P = at-passed T.0 in
       no_line p parties shares wanted (length held) (length before) bytes P T.0 (rw P.blocks_told at T.1)
-  line_of (Disagreeing s) e =
-      let T = call_told (Disagreeing s) e in
+  line_of (Err (Disagreeing s)) e =
+      let T = call_told (Err (Disagreeing s)) e in
       let P = at-passed T.0 in
       eighteen p parties shares wanted (length held) (length before) bytes P T.0 (rw P.blocks_told at T.1)
-  line_of (Refused k) e =
-      let T = call_told (Refused k) e in
-      rw T.1 at (first-line p parties shares wanted (length held) (length before) T.0)
+  line_of (Err (Refused k)) e =
+      let T = call_told (Err (Refused k)) e in
+      rw T.1 at (first-line p parties shares wanted (length held) (length before) T.0).0
 
 pub rebuild_in_words : (p : Parameters) → EveryRebuild p
 rebuild_in_words p parties shares wanted held before a after bytes C =
@@ -381,16 +389,16 @@ one_party {p} {parties} {s = s} {s' = s'} X X' =
     by l (yes e) (yes e') = e ∙ sym e'
 
 pub rebuild_words_settle : (p : Parameters) → RebuildWordsSettle p
-rebuild_words_settle p parties shares wanted held before (Rebuilt d) a' after after' R R' =
+rebuild_words_settle p parties shares wanted held before (Ok d) a' after after' R R' =
     let other = R'.answered.accepts.1 (R.answered.accepts.0 (d, refl)) in
-    let W' : Rebuilds p parties shares wanted held before (Rebuilt other.0) after' = rw other.1 at R'.wrote in
+    let W' : Rebuilds p parties shares wanted held before (Ok other.0) after' = rw other.1 at R'.wrote in
     let same = R.wrote.output R.wrote.agree ∙ sym (W'.output R.wrote.agree) in
-    (ap Rebuilt (R.wrote.different_is ∙ ap (differing held) same ∙ sym W'.different_is) ∙ sym other.1, same)
-rebuild_words_settle p parties shares wanted held before (Disagreeing s) a' after after' R R' =
+    (ap Ok (R.wrote.different_is ∙ ap (differing held) same ∙ sym W'.different_is) ∙ sym other.1, same)
+rebuild_words_settle p parties shares wanted held before (Err (Disagreeing s)) a' after after' R R' =
     let other = R'.answered.disagrees.1 (R.answered.disagrees.0 (s, refl)) in
-    let W' : Rebuilds p parties shares wanted held before (Disagreeing other.0) after' = rw other.1 at R'.wrote in
-    (ap Disagreeing (one_party R.wrote.0 W'.0) ∙ sym other.1, R.wrote.1 ∙ sym W'.1)
-rebuild_words_settle p parties shares wanted held before (Refused k) a' after after' R R' =
+    let W' : Rebuilds p parties shares wanted held before (Err (Disagreeing other.0)) after' = rw other.1 at R'.wrote in
+    (ap (λ (x : ℕ). Err (Disagreeing x)) (one_party R.wrote.0 W'.0) ∙ sym other.1, R.wrote.1 ∙ sym W'.1)
+rebuild_words_settle p parties shares wanted held before (Err (Refused k)) a' after after' R R' =
     let other = (R'.answered.refuses k).1 ((R.answered.refuses k).0 refl) in
-    let W' : Rebuilds p parties shares wanted held before (Refused k) after' = rw other at R'.wrote in
+    let W' : Rebuilds p parties shares wanted held before (Err (Refused k)) after' = rw other at R'.wrote in
     (sym other, R.wrote ∙ sym W')

@@ -1,5 +1,6 @@
 -- Demand 3: the splitter gives nothing away to at most z parties, and how a call ends depends on the scheme and the lengths alone.
 -- Assumes nothing.
+use Rattle.std.specs.Prelude.{Err, Ok, Result}
 use mathlib.Core.Path.{◌≡◌, refl, sym, ap, ◌∙◌}
 use mathlib.Core.List.{List, map}
 use Prim.Native.Nat.{ℕ, ◌≤◌}
@@ -9,15 +10,14 @@ use Rattle.lists.specs.Each.{Each}
 use Rattle.lists.proofs.Each.{map_each}
 use Rattle.lists.proofs.Once.{once, once-distinct, once_short, once_each, each_once}
 use Rattle.scheme.specs.Outcome.{Outcome, outcome}
-use Rattle.scheme.proofs.Laws.{default_accepted, told-accepted, told-refused, kept}
+use Rattle.scheme.proofs.Laws.{number_same, default_accepted, told-accepted, told-refused, kept}
 use Rattle.family.specs.Message.{Bytes}
 use Rattle.family.specs.Secrecy.{Hidden}
 use Rattle.staircase.specs.Parameters.{Parameters, AcceptedScheme, Party, default_parameters, blocks_of, key_bytes, output_bytes}
 use Rattle.staircase.specs.Shares.{shares, part_of, KeyString}
 use Rattle.staircase.proofs.Hiding.{message_hidden}
 use Rattle.staircase.proofs.WholeBlocks.{keys-number}
-use Rattle.scheme.specs.declared.Answer.{Answer}
-use Rattle.scheme.specs.declared.Answer.TheVariants.{Value, Refused}
+use Rattle.scheme.specs.declared.refusal.Refusal.{Refusal}
 use Rattle.dealer.specs.Split.{split_refusal, split_answer, split_output, SplitCall}
 use Rattle.dealer.proofs.Laws.{none_applies, written as written_out, output_long}
 use Rattle.sharing.specs.Secrecy.{Secrecy, written, Wrote, OutcomeFromLengths}
@@ -75,28 +75,28 @@ default_secrecy = secrecy default_parameters default_accepted
 -- ---- how a call ends
 
 -- an answer is its outcome
-pub same_answer : (a a' : Answer) → outcome a ≡ outcome a' → a ≡ a'
-same_answer (Value x) (Value y) e = ap Value (cc (ap (λ (o : Outcome). o.values) e))
-same_answer (Value x) (Refused y) e = let z : ◌≡◌ {A = ℕ} 0 1 = ap length (ap (λ (o : Outcome). o.values) (sym e)) in absurd (let x : ⊥ = omega arith in x)
-same_answer (Refused x) (Value y) e = let z : ◌≡◌ {A = ℕ} 0 1 = ap length (ap (λ (o : Outcome). o.values) e) in absurd (let x : ⊥ = omega arith in x)
-same_answer (Refused x) (Refused y) e = ap Refused (ap (λ (o : Outcome). o.number) e)
+pub same_answer : (a a' : Result ℕ Refusal) → outcome a ≡ outcome a' → a ≡ a'
+same_answer (Ok x) (Ok y) e = ap Ok (cc (ap (λ (o : Outcome). o.values) e))
+same_answer (Ok x) (Err y) e = let z : ◌≡◌ {A = ℕ} 0 1 = ap length (ap (λ (o : Outcome). o.values) (sym e)) in absurd (let x : ⊥ = omega arith in x)
+same_answer (Err x) (Ok y) e = let z : ◌≡◌ {A = ℕ} 0 1 = ap length (ap (λ (o : Outcome). o.values) e) in absurd (let x : ⊥ = omega arith in x)
+same_answer (Err x) (Err y) e = ap Err (number_same x y (ap (λ (o : Outcome). o.number) e))
 
 -- what a call wrote
-pub call_wrote : (p : Parameters) (message keys before : List ℕ) (answer : Answer) (after : List ℕ) → SplitCall p message keys before answer after
+pub call_wrote : (p : Parameters) (message keys before : List ℕ) (answer : Result ℕ Refusal) (after : List ℕ) → SplitCall p message keys before answer after
     → Wrote p message keys before answer after
 unfolding split_answer split_output
-call_wrote p message keys before (Value bytes) after C =
-    let none = (told-accepted (Value bytes) _ _ C.0 refl).0 in
+call_wrote p message keys before (Ok bytes) after C =
+    let none = (told-accepted (Ok bytes) _ _ C.0 refl).0 in
     (C.1 ∙ written_out p message keys before none, ap length C.1 ∙ output_long p message keys before)
-call_wrote p message keys before (Refused number) after C = C.1 ∙ sym (kept _ (told-refused (Refused number) _ _ C.0 refl))
+call_wrote p message keys before (Err q) after C = C.1 ∙ sym (kept _ (told-refused (Err q) _ _ C.0 refl))
 
 -- so a call that gave this answer wrote as many bytes as the lengths say
-pub written_long : (answer : Answer) (before after : List ℕ) → length after ≡ length before → written answer after ≡ written answer before
-written_long (Value bytes) before after e = e
-written_long (Refused number) before after e = refl
+pub written_long : (answer : Result ℕ Refusal) (before after : List ℕ) → length after ≡ length before → written answer after ≡ written answer before
+written_long (Ok bytes) before after e = e
+written_long (Err q) before after e = refl
 
 -- two calls whose answers say the same, and whose outputs are as long as before, end alike
-pub alike : (answer answer' : Answer) (before before' after after' : List ℕ) → outcome answer ≡ outcome answer'
+pub alike : (answer answer' : Result ℕ Refusal) (before before' after after' : List ℕ) → outcome answer ≡ outcome answer'
     → length after ≡ length before → length after' ≡ length before' → length before ≡ length before'
     → (answer ≡ answer') × (written answer after ≡ written answer' after')
 alike answer answer' before before' after after' o long long' e =

@@ -4,10 +4,9 @@
 -- table has them: N is `blocks_of`, b is `rows` and P is `prefix_rows`. proofs/Calls.antt proves them. The check's own are `CheckedBy` in
 -- crates/scheme/specs/Grounds.antt.
 -- Assumes nothing.
-use Rattle.std.specs.Prelude.{◌≡◌, ◌≢◌, List, [], ◌∷◌, ◌++◌, ℕ, ◌*◌, ◌<◌, length, take}
+use Rattle.std.specs.Prelude.{◌≡◌, ◌≢◌, List, [], ◌∷◌, ◌++◌, ℕ, ◌*◌, ◌<◌, length, take, Err, Ok, Result}
 use Rattle.lists.specs.Each.{Each, Byte}
-use Rattle.scheme.specs.declared.Answer.{Answer}
-use Rattle.scheme.specs.declared.Answer.TheVariants.{Value, Refused}
+use Rattle.scheme.specs.declared.refusal.Refusal.{Refusal}
 use Rattle.scheme.specs.Limits.{max_message}
 use Rattle.scheme.specs.Outcome.{outcome}
 use Rattle.scheme.specs.Grounds.{Ground, ground, scheme_grounds, AnsweredBy}
@@ -50,13 +49,13 @@ split_lines p message keys out =
     ∷ [])
 
 -- it answers N × b, the bytes of a share
-pub record SplitInWords (p : Parameters) (message keys before : List ℕ) (a : Answer) (after : List ℕ) : Type 0 where
+pub record SplitInWords (p : Parameters) (message keys before : List ℕ) (a : Result ℕ Refusal) (after : List ℕ) : Type 0 where
   pub answered : AnsweredBy (split_lines p (length message) (length keys) (length before)) (blocks_of p (length message) * rows p) a
   pub wrote : Wrote p message keys before a after
 
 abbrev pub EverySplit : Parameters → Type 0
 EverySplit p =
-    (message keys before : List ℕ) (a : Answer) (after : List ℕ) → SplitCall p message keys before a after → SplitInWords p message keys before a after
+    (message keys before : List ℕ) (a : Result ℕ Refusal) (after : List ℕ) → SplitCall p message keys before a after → SplitInWords p message keys before a after
 
 -- ---- prefix: one operation answers the length, the other hands back the part
 
@@ -66,18 +65,18 @@ prefix_lines p message d share =
     scheme_lines p ++ (too_long message ∷ no_count p d ∷ ground 9 (share ≢ blocks_of p message * rows p) ∷ [])
 
 -- the beginning of the share, as long as was answered; empty on a refusal
-abbrev pub HandsBack : List ℕ → Answer → List ℕ → Type 0
-HandsBack share (Value bytes) part = (part ≡ take bytes share) × (length part ≡ bytes)
-HandsBack share (Refused number) part = part ≡ []
+abbrev pub HandsBack : List ℕ → Result ℕ Refusal → List ℕ → Type 0
+HandsBack share (Ok bytes) part = (part ≡ take bytes share) × (length part ≡ bytes)
+HandsBack share (Err q) part = part ≡ []
 
 -- it answers P × N
-pub record PrefixInWords (p : Parameters) (message d : ℕ) (share : List ℕ) (a : Answer) (part : List ℕ) : Type 0 where
+pub record PrefixInWords (p : Parameters) (message d : ℕ) (share : List ℕ) (a : Result ℕ Refusal) (part : List ℕ) : Type 0 where
   pub answered : AnsweredBy (prefix_lines p message d (length share)) (prefix_rows p d * blocks_of p message) a
   pub part_is : HandsBack share a part
 
 abbrev pub EveryPrefix : Parameters → Type 0
 EveryPrefix p =
-    (message d : ℕ) (share : List ℕ) (a : Answer) (part : List ℕ)
+    (message d : ℕ) (share : List ℕ) (a : Result ℕ Refusal) (part : List ℕ)
     → outcome a ≡ prefix_answer p message d (length share) → part ≡ prefix_of p message d share
     → PrefixInWords p message d share a part
 
@@ -87,17 +86,17 @@ abbrev pub basis_lines : Parameters → List ℕ → List Ground
 basis_lines p parties = scheme_lines p ++ (no_count p (length parties) ∷ not_rising p parties ∷ [])
 
 -- the basis for the parties; all zero on a refusal
-abbrev pub Tabulates : Parameters → List ℕ → Answer → List (List ℕ) → Type 0
-Tabulates p parties (Value d) table = BasisFor p parties table
-Tabulates p parties (Refused number) table = AllZero table
+abbrev pub Tabulates : Parameters → List ℕ → Result ℕ Refusal → List (List ℕ) → Type 0
+Tabulates p parties (Ok d) table = BasisFor p parties table
+Tabulates p parties (Err q) table = AllZero table
 
-pub record BasisInWords (p : Parameters) (parties : List ℕ) (a : Answer) (table : List (List ℕ)) : Type 0 where
+pub record BasisInWords (p : Parameters) (parties : List ℕ) (a : Result ℕ Refusal) (table : List (List ℕ)) : Type 0 where
   pub answered : AnsweredBy (basis_lines p parties) (length parties) a
   pub table_is : Tabulates p parties a table
 
 abbrev pub EveryBasis : Parameters → Type 0
 EveryBasis p =
-    (parties : List ℕ) (a : Answer) (table : List (List ℕ)) → outcome a ≡ basis_answer p parties → table ≡ basis_of p parties
+    (parties : List ℕ) (a : Result ℕ Refusal) (table : List (List ℕ)) → outcome a ≡ basis_answer p parties → table ≡ basis_of p parties
     → BasisInWords p parties a table
 
 -- ---- reconstruct
@@ -114,7 +113,7 @@ reconstruct_lines p message parties prefixes out =
     ∷ [])
 
 -- it answers d × P × N, the bytes that it used
-pub record ReconstructInWords (p : Parameters) (message : ℕ) (parties prefixes before : List ℕ) (a : Answer) (after : List ℕ) : Type 0 where
+pub record ReconstructInWords (p : Parameters) (message : ℕ) (parties prefixes before : List ℕ) (a : Result ℕ Refusal) (after : List ℕ) : Type 0 where
   pub answered :
       AnsweredBy (reconstruct_lines p message parties (length prefixes) (length before)) (length parties * prefix_rows p (length parties) * blocks_of p message) a
   pub wrote : Opens p message parties prefixes before a after
@@ -122,7 +121,7 @@ pub record ReconstructInWords (p : Parameters) (message : ℕ) (parties prefixes
 -- with prefixes that are bytes
 abbrev pub EveryReconstruct : Parameters → Type 0
 EveryReconstruct p =
-    (message : ℕ) (parties prefixes before : List ℕ) (a : Answer) (after : List ℕ) → Each Byte prefixes
+    (message : ℕ) (parties prefixes before : List ℕ) (a : Result ℕ Refusal) (after : List ℕ) → Each Byte prefixes
     → ReconstructCall p message parties prefixes before a after → ReconstructInWords p message parties prefixes before a after
 
 -- ---- the words settle a call: two that fit them, given the same, answered and left the same. Refusals, answers and what a refused call leaves are settled
@@ -130,12 +129,12 @@ EveryReconstruct p =
 -- `opened_string` by `Opened`, N by `FewestBlocks`, P and b by `SchemeFacts`, the points by `point_is`.
 
 pub record WordsSettle (p : Parameters) : Type 0 where
-  pub split : (message keys before : List ℕ) (a a' : Answer) (after after' : List ℕ)
+  pub split : (message keys before : List ℕ) (a a' : Result ℕ Refusal) (after after' : List ℕ)
       → SplitInWords p message keys before a after → SplitInWords p message keys before a' after' → (a ≡ a') × (after ≡ after')
-  pub prefix : (message d : ℕ) (share : List ℕ) (a a' : Answer) (part part' : List ℕ)
+  pub prefix : (message d : ℕ) (share : List ℕ) (a a' : Result ℕ Refusal) (part part' : List ℕ)
       → PrefixInWords p message d share a part → PrefixInWords p message d share a' part' → (a ≡ a') × (part ≡ part')
-  pub basis : (parties : List ℕ) (a a' : Answer) (table table' : List (List ℕ))
+  pub basis : (parties : List ℕ) (a a' : Result ℕ Refusal) (table table' : List (List ℕ))
       → BasisInWords p parties a table → BasisInWords p parties a' table' → (a ≡ a') × (table ≡ table')
-  pub reconstruct : (message : ℕ) (parties prefixes before : List ℕ) (a a' : Answer) (after after' : List ℕ)
+  pub reconstruct : (message : ℕ) (parties prefixes before : List ℕ) (a a' : Result ℕ Refusal) (after after' : List ℕ)
       → ReconstructInWords p message parties prefixes before a after → ReconstructInWords p message parties prefixes before a' after'
       → (a ≡ a') × (after ≡ after')

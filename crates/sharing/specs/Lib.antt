@@ -4,7 +4,7 @@ pub mod Opening
 pub mod Calls
 pub mod PaddedSecrecy
 pub mod PoolSecrecy
-pub mod PaddedOpening
+pub mod OpeningPadded
 pub mod PaddedRoundTrip
 pub mod PaddedCalls
 pub mod PoolCalls

@@ -2,10 +2,9 @@
 -- an accepted one wrote the message's part of the one string of whole blocks that some keys turn into these prefixes, and answered the number of
 -- their bytes. Nothing is asked of the scheme, the parties or the lengths: a call that was accepted has shown what it takes.
 -- Assumes nothing.
-use Rattle.std.specs.Prelude.{◌≡◌, List, ℕ, ◌-◌, ◌*◌, length, take}
+use Rattle.std.specs.Prelude.{◌≡◌, List, ℕ, ◌-◌, ◌*◌, length, take, Err, Ok, Result}
 use Rattle.lists.specs.Each.{Each, Byte}
-use Rattle.scheme.specs.declared.Answer.{Answer}
-use Rattle.scheme.specs.declared.Answer.TheVariants.{Value, Refused}
+use Rattle.scheme.specs.declared.refusal.Refusal.{Refusal}
 use Rattle.staircase.specs.Parameters.{Parameters, block, prefix_rows, blocks_of}
 use Rattle.staircase.specs.Exactness.{opened_string, Opened}
 use Rattle.reader.specs.Reconstruct.{ReconstructCall}
@@ -23,12 +22,12 @@ pub record OpenedExactly (p : Parameters) (message : ℕ) (parties prefixes : Li
   pub rows_of-count : prefix_rows p (length parties) * (length parties - p.z) ≡ block p
 
 -- what a call did, by its answer: a refused one left the output as it was
-abbrev pub Opens : Parameters → ℕ → List ℕ → List ℕ → List ℕ → Answer → List ℕ → Type 0
-Opens p message parties prefixes before (Value used) after = OpenedExactly p message parties prefixes used after
-Opens p message parties prefixes before (Refused number) after = after ≡ before
+abbrev pub Opens : Parameters → ℕ → List ℕ → List ℕ → List ℕ → Result ℕ Refusal → List ℕ → Type 0
+Opens p message parties prefixes before (Ok used) after = OpenedExactly p message parties prefixes used after
+Opens p message parties prefixes before (Err q) after = after ≡ before
 
 -- every call with prefixes that are bytes (`exact_calls` in proofs/Opening.antt), whatever else it is given
 abbrev pub ExactCalls : Parameters → Type 0
 ExactCalls p =
-    (message : ℕ) (parties prefixes before : List ℕ) (a : Answer) (after : List ℕ) → Each Byte prefixes
+    (message : ℕ) (parties prefixes before : List ℕ) (a : Result ℕ Refusal) (after : List ℕ) → Each Byte prefixes
     → ReconstructCall p message parties prefixes before a after → Opens p message parties prefixes before a after

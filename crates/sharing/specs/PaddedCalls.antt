@@ -2,9 +2,10 @@
 -- apply to a call in their order, what it answers by them, and what it leaves. N is L ÷ m rounded down, plus 1, for the splitter; the others, which nobody
 -- tells L, take it from the length that they are lent, and refuse one that no message of an accepted length gives. proofs/PaddedCalls.antt proves them.
 -- Assumes nothing.
-use Rattle.std.specs.Prelude.{◌≡◌, ◌↔◌, ◌≢◌, List, [], ◌∷◌, ◌++◌, ℕ, ◌*◌, ◌/◌, ◌<◌, length}
+use Rattle.std.specs.Prelude.{◌≡◌, ◌↔◌, ◌≢◌, List, [], ◌∷◌, ◌++◌, ℕ, ◌*◌, ◌/◌, ◌<◌, length, Err, Ok, Result}
 use Rattle.lists.specs.Each.{Each, Byte}
-use Rattle.scheme.specs.declared.Answer.{Answer}
+use Rattle.scheme.specs.Refusals as refusals
+use Rattle.scheme.specs.declared.refusal.Refusal.{Refusal}
 use Rattle.scheme.specs.Limits.{max_message}
 use Rattle.scheme.specs.Outcome.{outcome}
 use Rattle.scheme.specs.Padding.{NoMessageGives}
@@ -14,12 +15,11 @@ use Rattle.staircase.specs.Parameters.{Parameters, block, rows, prefix_rows, pad
 use Rattle.staircase.specs.Exactness.{opened_string}
 use Rattle.dealer.specs.SplitPadded.{SplitPaddedCall}
 use Rattle.party.specs.PrefixPadded.{prefix_padded_answer, prefix_padded_of}
-use Rattle.reader.specs.declared.padded.PaddedAnswer.{PaddedAnswer}
-use Rattle.reader.specs.declared.padded.PaddedAnswer.TheVariants.{Opened, Refused}
+use Rattle.reader.specs.declared.padded.PaddedOpening.{PaddedOpening}
 use Rattle.reader.specs.ReconstructPadded.{ReconstructPaddedCall}
 use Rattle.sharing.specs.Calls.{scheme_lines, too_long, no_count, not_rising, HandsBack}
 use Rattle.sharing.specs.PaddedSecrecy.{PaddedWrote}
-use Rattle.sharing.specs.PaddedOpening.{OpensPadded}
+use Rattle.sharing.specs.OpeningPadded.{OpensPadded}
 
 -- ---- split
 
@@ -33,13 +33,13 @@ split_padded_lines p message keys out =
     ∷ [])
 
 -- it answers N × b, the bytes of a share
-pub record SplitPaddedInWords (p : Parameters) (message keys before : List ℕ) (a : Answer) (after : List ℕ) : Type 0 where
+pub record SplitPaddedInWords (p : Parameters) (message keys before : List ℕ) (a : Result ℕ Refusal) (after : List ℕ) : Type 0 where
   pub answered : AnsweredBy (split_padded_lines p (length message) (length keys) (length before)) (padded_blocks_of p (length message) * rows p) a
   pub wrote : PaddedWrote p message keys before a after
 
 abbrev pub EverySplitPadded : Parameters → Type 0
 EverySplitPadded p =
-    (message keys before : List ℕ) (a : Answer) (after : List ℕ) → SplitPaddedCall p message keys before a after
+    (message keys before : List ℕ) (a : Result ℕ Refusal) (after : List ℕ) → SplitPaddedCall p message keys before a after
     → SplitPaddedInWords p message keys before a after
 
 -- ---- prefix
@@ -49,13 +49,13 @@ abbrev pub prefix_padded_lines : Parameters → ℕ → ℕ → List Ground
 prefix_padded_lines p d share = scheme_lines p ++ (no_count p d ∷ ground 9 (NoMessageGives (block p) (rows p) share) ∷ [])
 
 -- it answers P × N, where the share has N × b bytes
-pub record PrefixPaddedInWords (p : Parameters) (d : ℕ) (share : List ℕ) (a : Answer) (part : List ℕ) : Type 0 where
+pub record PrefixPaddedInWords (p : Parameters) (d : ℕ) (share : List ℕ) (a : Result ℕ Refusal) (part : List ℕ) : Type 0 where
   pub answered : AnsweredBy (prefix_padded_lines p d (length share)) (prefix_rows p d * (length share / rows p)) a
   pub part_is : HandsBack share a part
 
 abbrev pub EveryPrefixPadded : Parameters → Type 0
 EveryPrefixPadded p =
-    (d : ℕ) (share : List ℕ) (a : Answer) (part : List ℕ) → outcome a ≡ prefix_padded_answer p d (length share) → part ≡ prefix_padded_of p d share
+    (d : ℕ) (share : List ℕ) (a : Result ℕ Refusal) (part : List ℕ) → outcome a ≡ prefix_padded_answer p d (length share) → part ≡ prefix_padded_of p d share
     → PrefixPaddedInWords p d share a part
 
 -- ---- reconstruct
@@ -81,28 +81,28 @@ reconstruct_padded_lines p parties prefixes out =
     ∷ [])
 
 -- its answer has two numbers; those of an accepted one are what `OpensPadded` says
-pub record PaddedAnsweredBy (grounds : List Ground) (a : PaddedAnswer) : Type 0 where
-  pub accepts : ((used : ℕ) × (message : ℕ) × (a ≡ Opened used message)) ↔ NoneApplies grounds
-  pub refuses : (q : ℕ) → (a ≡ Refused q) ↔ FirstApplies q grounds
+pub record PaddedAnsweredBy (grounds : List Ground) (a : Result PaddedOpening Refusal) : Type 0 where
+  pub accepts : ((opening : PaddedOpening) × (a ≡ Ok opening)) ↔ NoneApplies grounds
+  pub refuses : (q : Refusal) → (a ≡ Err q) ↔ FirstApplies (refusals.number q) grounds
 
 -- it answers d × P × N, the bytes that it used, and the message's length
-pub record ReconstructPaddedInWords (p : Parameters) (parties prefixes before : List ℕ) (a : PaddedAnswer) (after : List ℕ) : Type 0 where
+pub record ReconstructPaddedInWords (p : Parameters) (parties prefixes before : List ℕ) (a : Result PaddedOpening Refusal) (after : List ℕ) : Type 0 where
   pub answered : PaddedAnsweredBy (reconstruct_padded_lines p parties prefixes (length before)) a
   pub wrote : OpensPadded p parties prefixes before a after
 
 -- with prefixes that are bytes
 abbrev pub EveryReconstructPadded : Parameters → Type 0
 EveryReconstructPadded p =
-    (parties prefixes before : List ℕ) (a : PaddedAnswer) (after : List ℕ) → Each Byte prefixes
+    (parties prefixes before : List ℕ) (a : Result PaddedOpening Refusal) (after : List ℕ) → Each Byte prefixes
     → ReconstructPaddedCall p parties prefixes before a after → ReconstructPaddedInWords p parties prefixes before a after
 
 -- ---- the words settle a call: two that fit them, given the same, answered and left the same
 
 pub record PaddedWordsSettle (p : Parameters) : Type 0 where
-  pub split : (message keys before : List ℕ) (a a' : Answer) (after after' : List ℕ)
+  pub split : (message keys before : List ℕ) (a a' : Result ℕ Refusal) (after after' : List ℕ)
       → SplitPaddedInWords p message keys before a after → SplitPaddedInWords p message keys before a' after' → (a ≡ a') × (after ≡ after')
-  pub prefix : (d : ℕ) (share : List ℕ) (a a' : Answer) (part part' : List ℕ)
+  pub prefix : (d : ℕ) (share : List ℕ) (a a' : Result ℕ Refusal) (part part' : List ℕ)
       → PrefixPaddedInWords p d share a part → PrefixPaddedInWords p d share a' part' → (a ≡ a') × (part ≡ part')
-  pub reconstruct : (parties prefixes before : List ℕ) (a a' : PaddedAnswer) (after after' : List ℕ)
+  pub reconstruct : (parties prefixes before : List ℕ) (a a' : Result PaddedOpening Refusal) (after after' : List ℕ)
       → ReconstructPaddedInWords p parties prefixes before a after → ReconstructPaddedInWords p parties prefixes before a' after'
       → (a ≡ a') × (after ≡ after')

@@ -1,5 +1,5 @@
 -- Demand 2 of the request for padded messages (document 02, a), the way there and back: what was split comes back, and so does its length, which nobody
--- told. That opening is exact, whatever prefixes are lent, is `PaddedExactCalls` in PaddedOpening.antt.
+-- told. That opening is exact, whatever prefixes are lent, is `PaddedExactCalls` in OpeningPadded.antt.
 -- Assumes nothing.
 use Rattle.std.specs.Prelude.{◌≡◌, true, List, [], ◌∷◌, ℕ, ◌*◌, ◌≤◌, length, get_or, take}
 use Rattle.lists.specs.Each.{Each, Byte, occurs}

@@ -1,11 +1,10 @@
 -- Demand 3 of the request for padded messages (document 02, a), as statements about their splitter's own answer and output. The two messages may differ
 -- in length: what they have in common is the number N of their blocks.
 -- Assumes nothing.
-use Rattle.std.specs.Prelude.{◌≡◌, List, ℕ, ◌≤◌, length}
+use Rattle.std.specs.Prelude.{◌≡◌, List, ℕ, ◌≤◌, length, Err, Ok, Result}
 use Rattle.lists.specs.Each.{Each, Byte}
 use Rattle.scheme.specs.Limits.{max_message}
-use Rattle.scheme.specs.declared.Answer.{Answer}
-use Rattle.scheme.specs.declared.Answer.TheVariants.{Value, Refused}
+use Rattle.scheme.specs.declared.refusal.Refusal.{Refusal}
 use Rattle.staircase.specs.Parameters.{Parameters, Party, padded_blocks_of, output_bytes}
 use Rattle.staircase.specs.Shares.{padded_shares, part_of, PaddedKeyString}
 use Rattle.dealer.specs.SplitPadded.{split_padded_refusal, split_padded_output, SplitPaddedCall}
@@ -42,18 +41,18 @@ PaddedSecrecy p =
     → PaddedSecret p first second parties
 
 -- what a call wrote: all shares, as long as the output was, or the output is what it was
-abbrev pub PaddedWrote : Parameters → List ℕ → List ℕ → List ℕ → Answer → List ℕ → Type 0
-PaddedWrote p message keys before (Value bytes) after = (after ≡ padded_shares p message keys) × (length after ≡ length before)
-PaddedWrote p message keys before (Refused number) after = after ≡ before
+abbrev pub PaddedWrote : Parameters → List ℕ → List ℕ → List ℕ → Result ℕ Refusal → List ℕ → Type 0
+PaddedWrote p message keys before (Ok bytes) after = (after ≡ padded_shares p message keys) × (length after ≡ length before)
+PaddedWrote p message keys before (Err q) after = after ≡ before
 
 -- two calls end alike: the same answer, and equally many bytes written
-abbrev pub EndAlike : Answer → List ℕ → Answer → List ℕ → Type 0
+abbrev pub EndAlike : Result ℕ Refusal → List ℕ → Result ℕ Refusal → List ℕ → Type 0
 EndAlike answer after answer' after' = (answer ≡ answer') × (written answer after ≡ written answer' after')
 
 -- two calls with one scheme, accepted or not, and equal lengths, whatever the slices hold
 abbrev pub PaddedOutcomeFromLengths : Parameters → Type 0
 PaddedOutcomeFromLengths p =
-    (message message' keys keys' before before' after after' : List ℕ) (answer answer' : Answer)
+    (message message' keys keys' before before' after after' : List ℕ) (answer answer' : Result ℕ Refusal)
     → SplitPaddedCall p message keys before answer after → SplitPaddedCall p message' keys' before' answer' after'
     → length message ≡ length message' → length keys ≡ length keys' → length before ≡ length before'
     → EndAlike answer after answer' after'
@@ -61,7 +60,7 @@ PaddedOutcomeFromLengths p =
 -- and two calls with messages of accepted lengths that make equally many blocks, where keys and outputs have equal lengths
 abbrev pub PaddedOutcomeFromBlocks : Parameters → Type 0
 PaddedOutcomeFromBlocks p =
-    (message message' keys keys' before before' after after' : List ℕ) (answer answer' : Answer)
+    (message message' keys keys' before before' after after' : List ℕ) (answer answer' : Result ℕ Refusal)
     → SplitPaddedCall p message keys before answer after → SplitPaddedCall p message' keys' before' answer' after'
     → length message ≤ max_message → length message' ≤ max_message → padded_blocks_of p (length message) ≡ padded_blocks_of p (length message')
     → length keys ≡ length keys' → length before ≡ length before'

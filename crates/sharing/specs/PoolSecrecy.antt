@@ -7,10 +7,10 @@ use Rattle.scheme.specs.Limits.{max_message}
 use Rattle.family.specs.Message.{Bytes}
 use Rattle.staircase.specs.Parameters.{Parameters, Party, padded_blocks_of}
 use Rattle.staircase.specs.Shares.{part_of}
-use Rattle.key_pool.specs.declared.Form.{Form}
-use Rattle.key_pool.specs.declared.Form.TheVariants.{Earlier, Padded}
+use Rattle.scheme.specs.declared.forms.Form.{Form}
+use Rattle.scheme.specs.declared.forms.Form.TheVariants.{Earlier, Padded}
 use Rattle.key_pool.specs.declared.KeyPool.{KeyPool}
-use Rattle.key_pool.specs.Forms.{blocks_in}
+use Rattle.dealer.specs.Forms.{blocks_in}
 use Rattle.key_pool.specs.Run.{Call, Step, calls_of, IsAccepted, Promised, Run, loaded}
 use Rattle.sharing.specs.Secrecy.{written}
 

@@ -2,10 +2,9 @@
 -- that the rows not taken change nothing, and that the range of what was split is the message's. Which rows are taken is `CountedRows` in
 -- crates/reader/specs/Range.antt. Nothing is asked of the scheme, the parties, the range or the lengths: a call that was accepted has shown what it takes.
 -- Assumes nothing.
-use Rattle.std.specs.Prelude.{◌≡◌, true, ◌≢◌, List, [], ◌∷◌, ◌++◌, ℕ, ◌+◌, ◌*◌, ◌≤◌, ◌<◌, length, take, drop}
+use Rattle.std.specs.Prelude.{◌≡◌, true, ◌≢◌, List, [], ◌∷◌, ◌++◌, ℕ, ◌+◌, ◌*◌, ◌≤◌, ◌<◌, length, take, drop, Err, Ok, Result}
 use Rattle.lists.specs.Each.{Each, Byte, occurs}
-use Rattle.scheme.specs.declared.Answer.{Answer}
-use Rattle.scheme.specs.declared.Answer.TheVariants.{Value, Refused}
+use Rattle.scheme.specs.declared.refusal.Refusal.{Refusal}
 use Rattle.scheme.specs.Limits.{max_message}
 use Rattle.scheme.specs.Outcome.{accepted}
 use Rattle.scheme.specs.Grounds.{Ground, ground, AnsweredBy}
@@ -29,8 +28,8 @@ pub record OpenedRange (p : Parameters) (message start long : ℕ) (parties pref
   pub inside : start + long ≤ message
   pub long_is : length after ≡ long
   -- a call of the full opener that is lent the same, with an output of the message's length, is accepted too, and this is that range of what it writes
-  pub full : (before whole : List ℕ) (a : Answer) → length before ≡ message → ReconstructCall p message parties prefixes before a whole
-      → (a ≡ Value (length prefixes)) × (after ≡ take long (drop start whole))
+  pub full : (before whole : List ℕ) (a : Result ℕ Refusal) → length before ≡ message → ReconstructCall p message parties prefixes before a whole
+      → (a ≡ Ok (length prefixes)) × (after ≡ take long (drop start whole))
   -- d × rows taken × N bytes were used, and the rows taken are the fewest of the reader's order that reach the range
   pub used_is : used ≡ length parties * taken_rows p (length parties) start long * blocks_of p message
   pub rows : CountedRows p (length parties) start long
@@ -38,9 +37,9 @@ pub record OpenedRange (p : Parameters) (message start long : ℕ) (parties pref
   pub used_most : used ≤ length prefixes
 
 -- what a call did, by its answer: a refused one left the output as it was
-abbrev pub OpensRange : Parameters → ℕ → ℕ → ℕ → List ℕ → List ℕ → List ℕ → Answer → List ℕ → Type 0
-OpensRange p message start long parties prefixes before (Value used) after = OpenedRange p message start long parties prefixes used after
-OpensRange p message start long parties prefixes before (Refused number) after = after ≡ before
+abbrev pub OpensRange : Parameters → ℕ → ℕ → ℕ → List ℕ → List ℕ → List ℕ → Result ℕ Refusal → List ℕ → Type 0
+OpensRange p message start long parties prefixes before (Ok used) after = OpenedRange p message start long parties prefixes used after
+OpensRange p message start long parties prefixes before (Err q) after = after ≡ before
 
 -- a message of so many bytes, the start and the length of a range, a list of parties, and prefixes and an output of so many bytes
 abbrev pub range_lines : Parameters → ℕ → ℕ → ℕ → List ℕ → ℕ → ℕ → List Ground
@@ -54,7 +53,7 @@ range_lines p message start long parties prefixes out =
     ∷ ground 10 (out ≢ long)
     ∷ [])
 
-pub record RangeInWords (p : Parameters) (message start long : ℕ) (parties prefixes before : List ℕ) (a : Answer) (after : List ℕ) : Type 0 where
+pub record RangeInWords (p : Parameters) (message start long : ℕ) (parties prefixes before : List ℕ) (a : Result ℕ Refusal) (after : List ℕ) : Type 0 where
   pub answered :
       AnsweredBy (range_lines p message start long parties (length prefixes) (length before))
       (length parties * taken_rows p (length parties) start long * blocks_of p message) a
@@ -63,13 +62,13 @@ pub record RangeInWords (p : Parameters) (message start long : ℕ) (parties pre
 -- every call with prefixes that are bytes (`range_in_words` in proofs/Range.antt), whatever else it is given
 abbrev pub EveryRange : Parameters → Type 0
 EveryRange p =
-    (message start long : ℕ) (parties prefixes before : List ℕ) (a : Answer) (after : List ℕ) → Each Byte prefixes
+    (message start long : ℕ) (parties prefixes before : List ℕ) (a : Result ℕ Refusal) (after : List ℕ) → Each Byte prefixes
     → RangeCall p message start long parties prefixes before a after → RangeInWords p message start long parties prefixes before a after
 
 -- the words settle a call: two that fit them, given the same, answered and left the same
 abbrev pub RangeSettled : Parameters → Type 0
 RangeSettled p =
-    (message start long : ℕ) (parties prefixes before : List ℕ) (a a' : Answer) (after after' : List ℕ)
+    (message start long : ℕ) (parties prefixes before : List ℕ) (a a' : Result ℕ Refusal) (after after' : List ℕ)
     → RangeInWords p message start long parties prefixes before a after → RangeInWords p message start long parties prefixes before a' after'
     → (a ≡ a') × (after ≡ after')
 
@@ -77,7 +76,7 @@ RangeSettled p =
 -- crates/reader/specs/Range.antt, of calls
 abbrev pub UntakenRows : Parameters → Type 0
 UntakenRows p =
-    (message start long size : ℕ) (parties prefixes prefixes' before : List ℕ) (a a' : Answer) (after after' : List ℕ)
+    (message start long size : ℕ) (parties prefixes prefixes' before : List ℕ) (a a' : Result ℕ Refusal) (after after' : List ℕ)
     → Bytes size prefixes → Bytes size prefixes'
     → SameInTurns p (length parties) (blocks_of p message) (taken_rows p (length parties) start long) prefixes prefixes'
     → RangeCall p message start long parties prefixes before a after → RangeCall p message start long parties prefixes' before a' after'

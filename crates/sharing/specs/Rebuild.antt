@@ -3,10 +3,11 @@
 -- scheme, the parties or the lengths of a call: one that was accepted has shown what it takes. proofs/RebuildCalls.antt proves what a call did,
 -- proofs/RebuildSplit.antt what comes of shares that were split. When shares agree is `Agree` in crates/agreement/specs/Agreement.antt.
 -- Assumes nothing.
-use Rattle.std.specs.Prelude.{◌≡◌, ◌⊎◌, ◌↔◌, ◌≢◌, List, [], ◌∷◌, ◌++◌, ℕ, ◌+◌, ◌*◌, ◌/◌, ◌≤◌, ◌<◌, length, get_or}
+use Rattle.std.specs.Prelude.{◌≡◌, ◌⊎◌, ◌↔◌, ◌≢◌, List, [], ◌∷◌, ◌++◌, ℕ, ◌+◌, ◌*◌, ◌/◌, ◌≤◌, ◌<◌, length, get_or, Err, Ok, Result}
 use Rattle.lists.specs.Each.{Each, Distinct, Byte}
 use Rattle.lists.specs.Table.{joined, piece}
 use Rattle.lists.specs.Differing.{differing}
+use Rattle.scheme.specs.Refusals as refusals
 use Rattle.scheme.specs.Limits.{max_message}
 use Rattle.scheme.specs.Outcome.{accepted}
 use Rattle.scheme.specs.Readers.{Rising}
@@ -17,8 +18,9 @@ use Rattle.staircase.specs.Shares.{part_of, KeyString, PaddedKeyString}
 use Rattle.agreement.specs.Agreement.{share_in, Agree, AgreeWithout, enough}
 use Rattle.dealer.specs.Split.{split_output}
 use Rattle.dealer.specs.SplitPadded.{split_padded_output}
-use Rattle.reader.specs.declared.rebuilding.RebuildAnswer.{RebuildAnswer}
-use Rattle.reader.specs.declared.rebuilding.RebuildAnswer.TheVariants.{Rebuilt, Disagreeing, Refused}
+use Rattle.scheme.specs.declared.refusal.Refusal.{Refusal}
+use Rattle.reader.specs.declared.rebuilding.RebuildRefusal.{RebuildRefusal}
+use Rattle.reader.specs.declared.rebuilding.RebuildRefusal.TheVariants.{Disagreeing, Refused}
 use Rattle.agreement.specs.Rebuild.{disagreeing, rebuild_answer, rebuild_output}
 use Rattle.reader.specs.Rebuild.{RebuildCall}
 use Rattle.sharing.specs.Calls.{scheme_lines, not_rising}
@@ -57,10 +59,10 @@ rebuild_lines p parties shares wanted held out =
 
 -- its answer: accepted exactly if none applies, that the shares disagree exactly if 18 is the first that does, and else refused with the number of the
 -- first. The numbers that come with the first two are what `Rebuilds` says
-pub record RebuildAnsweredBy (grounds : List Ground) (a : RebuildAnswer) : Type 0 where
-  pub accepts : ((different : ℕ) × (a ≡ Rebuilt different)) ↔ NoneApplies grounds
-  pub disagrees : ((party : ℕ) × (a ≡ Disagreeing party)) ↔ FirstApplies 18 grounds
-  pub refuses : (q : ℕ) → (a ≡ Refused q) ↔ (FirstApplies q grounds × (q ≢ 18))
+pub record RebuildAnsweredBy (grounds : List Ground) (a : Result ℕ RebuildRefusal) : Type 0 where
+  pub accepts : ((different : ℕ) × (a ≡ Ok different)) ↔ NoneApplies grounds
+  pub disagrees : ((party : ℕ) × (a ≡ Err (Disagreeing party))) ↔ FirstApplies 18 grounds
+  pub refuses : (q : Refusal) → (a ≡ Err (Refused q)) ↔ FirstApplies (refusals.number q) grounds
 
 -- ---- what a call did
 
@@ -84,27 +86,27 @@ pub record NamedExactly (p : Parameters) (parties : List ℕ) (N : ℕ) (shares 
   pub is : party ≢ 0 → AgreeWithout p parties N shares party
 
 -- by the answer: a call that is not accepted left the output as it was
-abbrev pub Rebuilds : Parameters → List ℕ → List ℕ → ℕ → List ℕ → List ℕ → RebuildAnswer → List ℕ → Type 0
-Rebuilds p parties shares wanted held before (Rebuilt different) after =
+abbrev pub Rebuilds : Parameters → List ℕ → List ℕ → ℕ → List ℕ → List ℕ → Result ℕ RebuildRefusal → List ℕ → Type 0
+Rebuilds p parties shares wanted held before (Ok different) after =
     RebuiltExactly p parties (whole_blocks p (length parties) (length shares)) shares wanted held different after
-Rebuilds p parties shares wanted held before (Disagreeing party) after =
+Rebuilds p parties shares wanted held before (Err (Disagreeing party)) after =
     NamedExactly p parties (whole_blocks p (length parties) (length shares)) shares party × (after ≡ before)
-Rebuilds p parties shares wanted held before (Refused number) after = after ≡ before
+Rebuilds p parties shares wanted held before (Err (Refused number)) after = after ≡ before
 
-pub record RebuildInWords (p : Parameters) (parties shares : List ℕ) (wanted : ℕ) (held before : List ℕ) (a : RebuildAnswer) (after : List ℕ) : Type 0 where
+pub record RebuildInWords (p : Parameters) (parties shares : List ℕ) (wanted : ℕ) (held before : List ℕ) (a : Result ℕ RebuildRefusal) (after : List ℕ) : Type 0 where
   pub answered : RebuildAnsweredBy (rebuild_lines p parties shares wanted (length held) (length before)) a
   pub wrote : Rebuilds p parties shares wanted held before a after
 
 -- every call with shares that are bytes (`rebuild_in_words` in proofs/RebuildCalls.antt), whatever else it is given
 abbrev pub EveryRebuild : Parameters → Type 0
 EveryRebuild p =
-    (parties shares : List ℕ) (wanted : ℕ) (held before : List ℕ) (a : RebuildAnswer) (after : List ℕ) → Each Byte shares
+    (parties shares : List ℕ) (wanted : ℕ) (held before : List ℕ) (a : Result ℕ RebuildRefusal) (after : List ℕ) → Each Byte shares
     → RebuildCall p parties shares wanted held before a after → RebuildInWords p parties shares wanted held before a after
 
 -- the words settle a call (`rebuild_words_settle`): two that fit them, given the same, answered and left the same
 abbrev pub RebuildWordsSettle : Parameters → Type 0
 RebuildWordsSettle p =
-    (parties shares : List ℕ) (wanted : ℕ) (held before : List ℕ) (a a' : RebuildAnswer) (after after' : List ℕ)
+    (parties shares : List ℕ) (wanted : ℕ) (held before : List ℕ) (a a' : Result ℕ RebuildRefusal) (after after' : List ℕ)
     → RebuildInWords p parties shares wanted held before a after → RebuildInWords p parties shares wanted held before a' after'
     → (a ≡ a') × (after ≡ after')
 

@@ -1,10 +1,9 @@
 -- Demand 3 of the request, as statements about the splitter's own answer and output.
 -- Assumes nothing.
-use Rattle.std.specs.Prelude.{◌≡◌, List, ℕ, ◌≤◌, length}
+use Rattle.std.specs.Prelude.{◌≡◌, List, ℕ, ◌≤◌, length, Err, Ok, Result}
 use Rattle.lists.specs.Each.{Each, Byte}
 use Rattle.scheme.specs.Limits.{max_message}
-use Rattle.scheme.specs.declared.Answer.{Answer}
-use Rattle.scheme.specs.declared.Answer.TheVariants.{Value, Refused}
+use Rattle.scheme.specs.declared.refusal.Refusal.{Refusal}
 use Rattle.staircase.specs.Parameters.{Parameters, Party, blocks_of, output_bytes}
 use Rattle.staircase.specs.Shares.{shares, part_of, KeyString}
 use Rattle.dealer.specs.Split.{split_refusal, split_output, SplitCall}
@@ -37,19 +36,19 @@ Secrecy p =
     → Secret p first second parties
 
 -- the bytes that a call of the splitter wrote, by its answer and its output after it: the whole output where it was accepted, none where it was refused
-abbrev pub written : Answer → List ℕ → ℕ
-written (Value bytes) after = length after
-written (Refused number) after = 0
+abbrev pub written : Result ℕ Refusal → List ℕ → ℕ
+written (Ok bytes) after = length after
+written (Err q) after = 0
 
 -- that these are the bytes it wrote: all shares, as long as the output was, or the output is what it was
-abbrev pub Wrote : Parameters → List ℕ → List ℕ → List ℕ → Answer → List ℕ → Type 0
-Wrote p message keys before (Value bytes) after = (after ≡ shares p message keys) × (length after ≡ length before)
-Wrote p message keys before (Refused number) after = after ≡ before
+abbrev pub Wrote : Parameters → List ℕ → List ℕ → List ℕ → Result ℕ Refusal → List ℕ → Type 0
+Wrote p message keys before (Ok bytes) after = (after ≡ shares p message keys) × (length after ≡ length before)
+Wrote p message keys before (Err q) after = after ≡ before
 
 -- two calls with one scheme, accepted or not, and equal lengths, whatever the slices hold: the same answer, and equally many bytes written
 abbrev pub OutcomeFromLengths : Parameters → Type 0
 OutcomeFromLengths p =
-    (message message' keys keys' before before' after after' : List ℕ) (answer answer' : Answer)
+    (message message' keys keys' before before' after after' : List ℕ) (answer answer' : Result ℕ Refusal)
     → SplitCall p message keys before answer after → SplitCall p message' keys' before' answer' after'
     → length message ≡ length message' → length keys ≡ length keys' → length before ≡ length before'
     → (answer ≡ answer') × (written answer after ≡ written answer' after')

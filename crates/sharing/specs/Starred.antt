@@ -2,9 +2,8 @@
 -- proofs/Starred.antt proves the list. Every claim goes through the definitions that the contracts of the public functions cite, so it is a
 -- claim about their answers and outputs.
 -- Assumes nothing.
-use Rattle.std.specs.Prelude.{◌≡◌, List, [], ◌∷◌, map, ℕ, ◌*◌, length, get_or}
+use Rattle.std.specs.Prelude.{◌≡◌, List, [], ◌∷◌, map, ℕ, ◌*◌, length, get_or, Some}
 use Rattle.lists.specs.Table.{tabulate, flat}
-use Rattle.gf256.specs.declared.InverseAnswer.TheVariants.{Inverse}
 use Rattle.gf256.specs.Byte.{◌⊗◌, inverse}
 use Rattle.scheme.specs.Outcome.{accepted, refused}
 use Rattle.scheme.specs.BlockLength.{block_length}
@@ -54,7 +53,7 @@ pub data Claim : Type 0 where
 -- What an output held before the call is of no account, so it is any list of the right length.
 abbrev pub Holds : Claim → Type 0
 Holds (product_is a b c) = a ⊗ b ≡ c
-Holds (inverse_is a b) = inverse a ≡ Inverse b
+Holds (inverse_is a b) = inverse a ≡ Some b
 Holds (accepts p m b) = checked p.n p.r p.z p.counts ≡ accepted (p.n ∷ p.r ∷ p.z ∷ m ∷ b ∷ [])
 Holds (refuses p number) = checked p.n p.r p.z p.counts ≡ refused number
 Holds (needs p m) = block_length p.z p.counts ≡ m

@@ -1,49 +1,37 @@
 // Bases.
+use crate::lent::{A, given};
 use crate::printing;
+use sharing::Parameters;
 use std::io;
 
 // Parties 2 and 3 of document 01's plan A: x + 3 and x + 2, since 2 + 3 is 1.
 pub(crate) fn of_scheme_a(rt: &impl Print) -> io::Result<()> {
-    show(rt, 3, 1, 1, &[3, 2], &[2, 3])
+    show(rt, A, &[2, 3])
 }
 
 // Each refusal of the parties.
 pub(crate) fn refused(rt: &impl Print) -> io::Result<()> {
-    show(rt, 3, 1, 1, &[3, 2], &[2])?;
-    show(rt, 3, 1, 1, &[3, 2], &[3, 2])?;
-    show(rt, 3, 1, 1, &[3, 2], &[2, 4])
+    show(rt, A, &[2])?;
+    show(rt, A, &[3, 2])?;
+    show(rt, A, &[2, 4])
 }
 
 // Two neighbours at once: 4 and 6, 6 and 7.
 pub(crate) fn refused_twice(rt: &impl Print) -> io::Result<()> {
-    show(rt, 10, 4, 1, &[10, 9, 8, 6], &[2])?;
-    show(rt, 3, 1, 1, &[3, 2], &[0])
+    show(rt, given(10, 4, 1, &[10, 9, 8, 6]), &[2])?;
+    show(rt, A, &[0])
 }
 
 // Prints the size of a basis, whether its table is all zero, and the first two weights of the first two parties.
-fn show(rt: &impl Print, n: u8, r: u8, z: u8, counts: &[u8], parties: &[u8]) -> io::Result<()> {
-    let size = sharing::basis_size(n, r, z, counts, parties);
+fn show(rt: &impl Print, given: Parameters, parties: &[u8]) -> io::Result<()> {
+    let size = sharing::basis_size(given, parties);
     printing::answer(rt, "basis of ", size)?;
-    show_table(rt, sharing::basis(n, r, z, counts, parties))
+    show_table(rt, sharing::basis(given, parties))
 }
 
 fn show_table(rt: &impl Print, table: [[u8; 16]; 16]) -> io::Result<()> {
-    if all_zero(table) {
+    if table == [[0; 16]; 16] {
         printing::word(rt, ", all zero")?;
     }
-    let first = table[0];
-    let second = table[1];
-    printing::bytes(rt, &[first[0], first[1], second[0], second[1]])
-}
-
-fn all_zero(table: [[u8; 16]; 16]) -> bool {
-    let mut k = 0;
-    while k < 256 {
-        let row = table[k / 16];
-        if row[k % 16] != 0 {
-            return false;
-        }
-        k += 1;
-    }
-    true
+    printing::bytes(rt, &[table[0][0], table[0][1], table[1][0], table[1][1]])
 }

@@ -1,7 +1,8 @@
 // Padded messages (document 02, a): their shares, prefixes and openings.
-use crate::lent::cut;
-use crate::{former, prefixes, printing};
-use sharing::PaddedAnswer;
+use crate::former::FORMER;
+use crate::lent::{A, cut};
+use crate::{prefixes, printing};
+use sharing::{Form, PaddedOpening, Parameters, Refusal};
 use std::io;
 
 // In document 01's plan A: a message that ends within a block, the empty one, and one that fills a block, which makes two:
@@ -17,18 +18,18 @@ pub(crate) fn splits(rt: &impl Print) -> io::Result<()> {
 // One block, the most that an accepted message makes and one more, no block and a part of one: of shares stored under the
 // former default, and in the default scheme.
 pub(crate) fn prefixes(rt: &impl Print) -> io::Result<()> {
-    show_former(rt, 4, 6)?;
-    show_former(rt, 3, 8196)?;
-    show_former(rt, 3, 8202)?;
-    show_former(rt, 3, 0)?;
-    show_former(rt, 5, 7)?;
-    show_former(rt, 2, 7)?;
-    show_default(rt, 4, 6)?;
-    show_default(rt, 3, 16386)?;
-    show_default(rt, 3, 16392)?;
-    show_default(rt, 3, 0)?;
-    show_default(rt, 5, 7)?;
-    show_default(rt, 2, 7)
+    show_prefix(rt, FORMER, 4, 6)?;
+    show_prefix(rt, FORMER, 3, 8196)?;
+    show_prefix(rt, FORMER, 3, 8202)?;
+    show_prefix(rt, FORMER, 3, 0)?;
+    show_prefix(rt, FORMER, 5, 7)?;
+    show_prefix(rt, FORMER, 2, 7)?;
+    show_prefix(rt, Parameters::default(), 4, 6)?;
+    show_prefix(rt, Parameters::default(), 3, 16386)?;
+    show_prefix(rt, Parameters::default(), 3, 16392)?;
+    show_prefix(rt, Parameters::default(), 3, 0)?;
+    show_prefix(rt, Parameters::default(), 5, 7)?;
+    show_prefix(rt, Parameters::default(), 2, 7)
 }
 
 // In plan A: from three parties and from two, an end at the block's beginning, none, none in two bytes of zeros, and two
@@ -48,26 +49,17 @@ fn show_block(rt: &impl Print, message: &[u8], keys: &[u8]) -> io::Result<()> {
 }
 
 fn show_split(rt: &impl Print, message: &[u8], keys: &[u8], out: &mut [u8]) -> io::Result<()> {
-    let answer = sharing::split_padded(3, 1, 1, &[3, 2], message, keys, out);
+    let answer = sharing::split(Form::Padded, A, message, keys, out);
     printing::answer(rt, "padded ", answer)?;
     printing::bytes(rt, out)
 }
 
 // The share has so many bytes.
-fn show_former(rt: &impl Print, d: usize, bytes: usize) -> io::Result<()> {
-    let zeros = [0u8; 8202];
-    let share = cut(&zeros, bytes);
-    let length = former::prefix_padded_length(d, share);
-    let part = former::prefix_padded(d, share);
-    prefixes::print(rt, "padded prefix ", length, share.len(), part.len())
-}
-
-// The same in the default scheme.
-fn show_default(rt: &impl Print, d: usize, bytes: usize) -> io::Result<()> {
+fn show_prefix(rt: &impl Print, given: Parameters, d: usize, bytes: usize) -> io::Result<()> {
     let zeros = [0u8; 16392];
     let share = cut(&zeros, bytes);
-    let length = sharing::prefix_padded_length_default(d, share);
-    let part = sharing::prefix_padded_default(d, share);
+    let length = sharing::prefix_padded_length(given, d, share);
+    let part = sharing::prefix_padded(given, d, share);
     prefixes::print(rt, "padded prefix ", length, share.len(), part.len())
 }
 
@@ -75,20 +67,21 @@ fn show_opening(rt: &impl Print, parties: &[u8], prefixes: &[u8]) -> io::Result<
     let mut out = [7u8; 2];
     show_answer(
         rt,
-        sharing::reconstruct_padded(3, 1, 1, &[3, 2], parties, prefixes, &mut out),
+        sharing::reconstruct_padded(A, parties, prefixes, &mut out),
     )?;
     printing::bytes(rt, &out)
 }
 
-pub(crate) fn show_answer(rt: &impl Print, answer: PaddedAnswer) -> io::Result<()> {
+pub(crate) fn show_answer(
+    rt: &impl Print,
+    answer: Result<PaddedOpening, Refusal>,
+) -> io::Result<()> {
     match answer {
-        PaddedAnswer::Opened { used, length } => show_numbers(rt, used as u64, length as u64),
-        PaddedAnswer::Refused(number) => printing::number(rt, "refused ", number as u64),
+        Ok(PaddedOpening { used, length }) => {
+            printing::number(rt, "padded used ", used)?;
+            printing::number(rt, ", length ", length)?;
+            printing::word(rt, ",")
+        }
+        Err(refusal) => printing::number(rt, "refused ", usize::from(refusal.number())),
     }
-}
-
-fn show_numbers(rt: &impl Print, used: u64, length: u64) -> io::Result<()> {
-    printing::number(rt, "padded used ", used)?;
-    printing::number(rt, ", length ", length)?;
-    printing::word(rt, ",")
 }

@@ -1,26 +1,28 @@
 // What is printed: words and numbers in decimal.
-use sharing::Answer;
+use sharing::Refusal;
 use std::io;
 
 // An answer, with a word for what it is when the call is accepted.
-pub(crate) fn answer(rt: &impl Print, text: &str, answer: Answer) -> io::Result<()> {
+pub(crate) fn answer(
+    rt: &impl Print,
+    text: &str,
+    answer: Result<usize, Refusal>,
+) -> io::Result<()> {
     match answer {
-        Answer::Value(value) => number(rt, text, value as u64),
-        Answer::Refused(refusal) => number(rt, "refused ", refusal as u64),
+        Ok(value) => number(rt, text, value),
+        Err(refusal) => number(rt, "refused ", usize::from(refusal.number())),
     }
 }
 
 // Bytes, to the end of the line.
 pub(crate) fn bytes(rt: &impl Print, bytes: &[u8]) -> io::Result<()> {
-    let mut i = 0;
-    while i < bytes.len() {
-        number(rt, " ", bytes[i] as u64)?;
-        i += 1;
+    for &byte in bytes {
+        number(rt, " ", usize::from(byte))?;
     }
     println!(rt)
 }
 
-pub(crate) fn number(rt: &impl Print, text: &str, number: u64) -> io::Result<()> {
+pub(crate) fn number(rt: &impl Print, text: &str, number: usize) -> io::Result<()> {
     print!(rt; "{text}{number}")
 }
 

@@ -10,17 +10,17 @@ use native.Mathlib.Nat.{div-le_self, mul-le-mul, eq-zero-or-pos}
 use native.Mathlib.Omega.{arith}
 use lib.ListN.{length, get_or, take, drop, length-append}
 use borrow.Author.Tests.{eq-eqb, ne_eqb}
-use Rattle.scheme.specs.declared.Scheme.{Scheme}
-use Rattle.scheme.specs.declared.SchemeAnswer.{SchemeAnswer}
-use Rattle.scheme.specs.declared.SchemeAnswer.TheVariants.{Accepted, Refused}
+use Rattle.scheme.specs.declared.accepted.Scheme.{Scheme}
+use Rattle.scheme.specs.declared.refusal.Refusal.{Refusal}
+use Rattle.scheme.specs.Facts.{SchemeIs}
+use Rattle.scheme.specs.Refusals.{number}
 use Rattle.scheme.specs.Limits.{max_parties, max_block, default_n, default_r, default_z, default_counts}
-use Rattle.scheme.specs.Outcome.{scheme_outcome, number_if, first_of}
+use Rattle.scheme.specs.Outcome.{refused, number_if, first_of}
 use Rattle.scheme.specs.BlockLength.{block_length}
 use Rattle.scheme.specs.Check.{parties_refused, thresholds_refused, counts_refused, block_refused, refusal, rows_of_count, rows_of_block, checked}
 use Rattle.sheet.specs.Sheet.{decimal, line, count_line, count_lines, scheme_text, sheet_text, word_block, word_rows, word_refused, max_input}
 use Rattle.sheet.specs.Writing.{max_text}
-use Rattle.scheme.proofs.Laws.{scheme-told}
-use Rattle.scheme.proofs.Laws.{accepted, accepted-scheme}
+use Rattle.scheme.proofs.Laws.{accepted, scheme_own, scheme-told}
 use Rattle.sheet.proofs.Decimal.{decimal_short}
 
 pub count_lines_more : (m z : ℕ) (ds : List ℕ) (d : ℕ) → count_lines m z (ds ++ (d ∷ [])) ≡ count_lines m z ds ++ count_line m z d
@@ -61,6 +61,12 @@ refusal_most : (n r z : ℕ) (ds : List ℕ) → refusal n r z ds ≤ 4
 unfolding refusal
 refusal_most n r z ds = number_most (parties_refused n) (thresholds_refused n r z) (counts_refused n r ds) (block_refused z ds)
 
+-- a scheme's block length is within its limit
+pub block_most : (s : Scheme) → s.block ≤ max_block
+block_most s =
+    let is = scheme_own s in
+    omega (arith, (accepted s.n s.r s.z s.counts.now is.passed).limit, is.block_is)
+
 -- the two cases of a scheme's text, from what the check answers
 module _ (n r z : ℕ) (ds : List ℕ) where
   text_accepted : refusal n r z ds ≡ 0 → scheme_text n r z ds
@@ -72,24 +78,14 @@ module _ (n r z : ℕ) (ds : List ℕ) where
   unfolding scheme_text
   text_refused e = rw (ne_eqb (refusal n r z ds) 0 e)
 
-  module _ (a : SchemeAnswer) (is : scheme_outcome a ≡ checked n r z ds) where
-    pub block_most : (s : Scheme) → a ≡ Accepted s → s.block ≤ max_block
-    block_most s e =
-        let i = accepted-scheme is e in
-        omega (arith, (accepted n r z ds i.passed).limit, i.block_is)
+  pub accepted_text : (s : Scheme) → SchemeIs s n r z ds → s.counts.now ≡ ds
+      → scheme_text n r z ds ≡ line (word_block ∷ decimal s.block ∷ word_rows ∷ decimal s.rows ∷ []) ++ count_lines s.block s.z s.counts.now
+  accepted_text s is lent = rw (is.block_is, is.rows_is, is.z_is, lent) (text_accepted is.passed)
 
-    pub accepted_text : (s : Scheme) → a ≡ Accepted s
-        → scheme_text n r z ds ≡ line (word_block ∷ decimal s.block ∷ word_rows ∷ decimal s.rows ∷ []) ++ count_lines s.block z ds
-    accepted_text s e =
-        let i = accepted-scheme is e in
-        rw (i.block_is, i.rows_is) (text_accepted i.passed)
-
-    pub refused_text : (q number : ℕ) → a ≡ Refused q → number ≡ (scheme_outcome a).number
-        → scheme_text n r z ds ≡ line (word_refused ∷ decimal number ∷ [])
-    refused_text q number e number_is =
-        let told = scheme-told n r z ds is e in
-        let same : number ≡ refusal n r z ds = number_is ∙ ap (λ (x : SchemeAnswer). (scheme_outcome x).number) e ∙ sym told.0 in
-        rw same (text_refused (λ passed. omega (arith, told.1)))
+  pub refused_text : (q : Refusal) → refused (number q) ≡ checked n r z ds → scheme_text n r z ds ≡ line (word_refused ∷ decimal (number q) ∷ [])
+  refused_text q e =
+      let told = scheme-told n r z ds q e in
+      rw (sym told.0) (text_refused (λ passed. omega (arith, told.1)))
 
   pub scheme_text_short : length (scheme_text n r z ds) ≤ max_text
   unfolding line rows_of_block
@@ -109,10 +105,11 @@ module _ (n r z : ℕ) (ds : List ℕ) where
       (eq-zero-or-pos (refusal n r z ds))
 
 -- what the input stands for
-pub sheet_default : (input : List ℕ) → length input ≡ 0 → sheet_text input ≡ scheme_text default_n default_r default_z default_counts
+pub sheet_default : (input : List ℕ) → length input ≡ 0 → (n r z : ℕ) (ds : List ℕ) → (n ≡ default_n) × (r ≡ default_r) × (z ≡ default_z) × (ds ≡ default_counts)
+    → sheet_text input ≡ scheme_text n r z ds
 unfolding sheet_text
-sheet_default [] e = refl
-sheet_default (n ∷ more) e = absurd (let no : ⊥ = omega arith in no)
+sheet_default [] e n r z ds is = rw (is.0, is.1, is.2, is.3) refl
+sheet_default (first ∷ more) e n r z ds is = absurd (let no : ⊥ = omega arith in no)
 
 pub sheet-given : (input : List ℕ) → (length input ≡ 0 → ⊥)
     → sheet_text input ≡ scheme_text (get_or input 0 0) (get_or input 1 0) (get_or input 2 0) (drop 3 (take max_input input))

@@ -2,12 +2,11 @@
 // reads, as a text of lines.
 #![tactic(auto)]
 
-ghost use Rattle.std.specs.Prelude.{◌≡◌, ◌≤◌, get_or, take, drop};
-ghost use Rattle.scheme.specs.Limits.{max_block};
+ghost use Rattle.std.specs.Prelude.{◌≡◌, get_or, take, drop};
 ghost use Rattle.sheet.specs.Sheet.{count_line, count_lines, scheme_text, sheet_text, max_input};
 ghost use Rattle.sheet.specs.Writing.{Whole, Contains, Adds};
 
-use scheme::{SchemeAnswer, limits};
+use scheme::{Parameters, Scheme};
 
 mod writer;
 
@@ -21,83 +20,68 @@ pub const MAX_INPUT: usize = 12;
 pub fn sheet(input: &[u8]) -> Text
     ensures { Whole result (sheet_text input.now) }
 {
-    if input.len() == 0 {
-        let counts = limits::DEFAULT_COUNTS;
-        return scheme_text(
-            limits::DEFAULT_N,
-            limits::DEFAULT_R,
-            limits::DEFAULT_Z,
-            &counts,
-        );
+    if input.is_empty() {
+        return scheme_text(Parameters::default());
     }
-    scheme_text(
-        input[0],
-        byte_or_0(input, 1),
-        byte_or_0(input, 2),
-        counts_of(input),
-    )
+    scheme_text(Parameters {
+        n: input[0],
+        r: byte_or_0(input, 1),
+        z: byte_or_0(input, 2),
+        counts: counts_of(input),
+    })
 }
 
 // The byte at a place of the input, 0 where it has none.
 fn byte_or_0(input: &[u8], at: usize) -> u8
     ensures { result ≡ get_or input.now at 0 }
 {
-    if at < input.len() { input[at] } else { 0 }
+    input.get(at).copied().unwrap_or(0)
 }
 
 // The counts of the input: what follows n, r and z, of the bytes that count.
 fn counts_of(input: &[u8]) -> &[u8]
     ensures { result.now ≡ drop 3 (take max_input input.now) }
 {
-    if input.len() <= 3 {
-        return &input[..0];
-    }
-    if input.len() <= MAX_INPUT {
-        return &input[3..];
-    }
-    &input[3..MAX_INPUT]
+    let counted = &input[..input.len().min(MAX_INPUT)];
+    &counted[counted.len().min(3)..]
 }
 
 // The text for a scheme.
-fn scheme_text(n: u8, r: u8, z: u8, counts: &[u8]) -> Text
-    ensures { Contains result (scheme_text n r z counts.now) }
+fn scheme_text(given: Parameters) -> Text
+    ensures { Contains result (scheme_text given.entry.n given.entry.r given.entry.z given.entry.counts.now) }
 {
-    let answer = scheme::check(n, r, z, counts);
-    let SchemeAnswer::Accepted(scheme) = answer else {
-        let number = scheme::refusal(answer) as usize;
-        return Text::new().word(b"refused ").number(number).byte(10);
+    let s = match scheme::check(given) {
+        Ok(s) => s,
+        Err(refusal) => {
+            let number = usize::from(refusal.number());
+            return Text::new().word(b"refused ").number(number).byte(10);
+        }
     };
-    let block = scheme.block;
     let first = Text::new()
         .word(b"block ")
-        .number(block)
+        .number(s.block)
         .word(b" rows ")
-        .number(scheme.rows)
+        .number(s.rows)
         .byte(10);
-    with_counts(first, block, z, counts)
+    with_counts(first, s)
 }
 
-// A text with one line a count after it, in the list's order.
-fn with_counts(text: Text, block: usize, z: u8, counts: &[u8]) -> Text
-    requires { block ≤ max_block }
-    ensures { Adds text result (count_lines block z counts.now) }
+// A text with one line a count of the scheme after it, in the list's order.
+fn with_counts(mut text: Text, scheme: Scheme) -> Text
+    ensures { Adds text result (count_lines scheme.entry.block scheme.entry.z scheme.entry.counts.now) }
 {
-    let mut longer = text;
-    let mut i = 0;
-    while i < counts.len() {
-        longer = with_count(longer, block, z, counts[i]);
-        i += 1;
+    for &d in scheme.counts {
+        text = with_count(text, scheme, d);
     }
-    longer
+    text
 }
 
 // A text with a count's line after it: d, its P, and the bytes read for a block, d times P.
-fn with_count(text: Text, block: usize, z: u8, d: u8) -> Text
-    requires { block ≤ max_block }
-    ensures { Adds text result (count_line block z d) }
+fn with_count(text: Text, scheme: Scheme, d: u8) -> Text
+    ensures { Adds text result (count_line scheme.entry.block scheme.entry.z d) }
 {
-    let count = d as usize;
-    let rows = scheme::rows_of_count(block, z, count);
+    let count = usize::from(d);
+    let rows = scheme::rows_of_count(scheme.block, scheme.z, count);
     text.number(count)
         .byte(32)
         .number(rows)

@@ -6,7 +6,8 @@ ghost use Rattle.sheet.specs.Writing.{Contains, Adds};
 // The bytes that a text has room for; for the contracts this stands in specs/Writing.antt.
 const MAX_TEXT: usize = 256;
 
-// The first `length` bytes are the text, and the others 0.
+// The first `length` bytes are the text, and the others 0. The room is fixed and the length stands beside it: a sheet
+// cannot fail, and std's String would have to allocate.
 #[derive(Clone, Copy)]
 pub struct Text {
     pub bytes: [u8; MAX_TEXT],
@@ -37,22 +38,20 @@ impl Text {
     }
 
     // The text and the bytes of a word after it.
-    pub(crate) fn word(self, word: &[u8]) -> Text
+    pub(crate) fn word(mut self, word: &[u8]) -> Text
         ensures { Adds self result word.now }
     {
-        let mut longer = self;
-        let mut i = 0;
-        while i < word.len() {
-            longer = longer.byte(word[i]);
-            i += 1;
+        for &byte in word {
+            self = self.byte(byte);
         }
-        longer
+        self
     }
 
     // The text and a number in decimal after it: its digits but the last, and the last.
     pub(crate) fn number(self, x: usize) -> Text
         ensures { Adds self result (decimal x) }
     {
+        // One digit. A u8 has no From of a usize.
         let last = 48 + (x % 10) as u8;
         if x < 10 {
             return self.byte(last);

@@ -69,7 +69,5 @@ fn refused_twice(rt: &impl Print) -> io::Result<()> {
 // Prints the sheet of an input.
 fn show(rt: &impl Print, input: &[u8]) -> io::Result<()> {
     let sheet = sheet::sheet(input);
-    let bytes = sheet.bytes;
-    let length = sheet.length;
-    rt.write_all(&bytes[..length])
+    rt.write_all(&sheet.bytes[..sheet.length])
 }

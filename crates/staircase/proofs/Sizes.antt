@@ -9,7 +9,7 @@ use native.Mathlib.Omega.{arith}
 use Rattle.lists.specs.Each.{occurs}
 use Rattle.lists.proofs.Each.{occurs-place}
 use Rattle.lists.proofs.Numbers.{positive_factor}
-use Rattle.scheme.specs.declared.Scheme.{Scheme}
+use Rattle.scheme.specs.declared.accepted.Scheme.{Scheme}
 use Rattle.scheme.specs.Facts.{SchemeIs}
 use Rattle.scheme.specs.Limits.{max_parties, max_block, max_message, max_blocks}
 use Rattle.scheme.specs.Check.{rows_of_count, rows_of_block, block_count}

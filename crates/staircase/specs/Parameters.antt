@@ -1,7 +1,8 @@
 -- A scheme's parameters, and the numbers that follow from them.
 -- Assumes nothing.
 use Rattle.std.specs.Prelude.{◌≡◌, List, [], ◌∷◌, ℕ, ◌*◌, ◌≤◌}
-use Rattle.scheme.specs.declared.Scheme.{Scheme}
+use Rattle.scheme.specs.declared.accepted.Scheme.{Scheme}
+use Rattle.scheme.specs.declared.parameters.Parameters.{Parameters as Given}
 use Rattle.scheme.specs.Limits.{default_n, default_r, default_z, default_counts}
 use Rattle.scheme.specs.BlockLength.{block_length}
 use Rattle.scheme.specs.Check.{refusal, rows_of_count, rows_of_block, block_count}
@@ -62,9 +63,16 @@ parameters n r z counts = record { n = n; r = r; z = z; counts = counts }
 abbrev pub scheme_a : Parameters
 scheme_a = parameters 3 1 1 (3 ∷ 2 ∷ [])
 
--- those of the scheme that the check answered, with its counts
-abbrev pub parameters_of : Scheme → List ℕ → Parameters
-parameters_of s counts = parameters s.n s.r s.z counts
+-- those that a call is given
+abbrev pub given_parameters : Given → Parameters
+given_parameters p = parameters p.n p.r p.z p.counts.now
+
+-- those of the scheme that the check answered, with these counts, and with its own
+abbrev pub parameters_with : Scheme → List ℕ → Parameters
+parameters_with s counts = parameters s.n s.r s.z counts
+
+abbrev pub parameters_of : Scheme → Parameters
+parameters_of s = parameters_with s s.counts.now
 
 -- those of the default scheme, for the calls without one
 abbrev pub default_parameters : Parameters

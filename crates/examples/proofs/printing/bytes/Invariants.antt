@@ -1,7 +1,0 @@
--- `examples::printing::bytes`: the measure is what is left of the bytes.
--- Assumes nothing.
-use Rattle.std.proofs.Common.{◌-◌, length}
-use Rattle.examples.proofs.printing.bytes.Given as goal
-
-abbrev pub decreases-loop-i : goal.decreases-loop-i
-decreases-loop-i g l = length l.values - l.i

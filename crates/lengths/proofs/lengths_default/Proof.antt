@@ -1,9 +1,0 @@
--- `lengths::lengths_default` meets its contract: it is what `lengths` ensures at the default parameters. It is named and not searched for, so that at other
--- parameters the two contracts are held against each other.
--- Assumes nothing.
-use borrow.Author.Rules.{rules}
-use Rattle.lengths.proofs.lengths_default.Statement.{statement}
-use Rattle.lengths.proofs.lengths_default.Tie as tie
-
-pub lengths_default_spec : {M : Type 1} → statement M
-lengths_default_spec = tie.close (tie.spec (λ c. search rules) (λ c κs. search rules) (λ c. c.lengths.ensures))
