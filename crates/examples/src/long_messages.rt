@@ -20,7 +20,7 @@ pub(crate) fn too_long(rt: &impl Print) -> io::Result<()> {
     show(rt, &message, &mut out)
 }
 
-// Bytes that differ from place to place.
+// Bytes that differ from place to place. A u8 has no From of a usize.
 fn fill(bytes: &mut [u8]) {
     for (i, byte) in bytes.iter_mut().enumerate() {
         *byte = (i % 251) as u8;

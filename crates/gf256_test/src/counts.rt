@@ -30,7 +30,7 @@ pub(crate) fn inverses() -> usize {
     (0..=255).filter(|&a| inverted(a)).count()
 }
 
-// 64 bytes that rise by 1 from the first, and from 255 to 0.
+// 64 bytes that rise by 1 from the first, and from 255 to 0. Here and below `as` cuts a place to a byte: a u8 has no From of a usize.
 fn rising(first: u8) -> [u8; LANES] {
     let mut x = [0; LANES];
     for i in 0..LANES {

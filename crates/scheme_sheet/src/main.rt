@@ -7,6 +7,7 @@ use std::io::Read;
 
 fn main(rt: HostRuntime) -> io::Result<()> {
     let mut input = Vec::new(rt.alloc());
+    // A u64 has no From of a usize.
     rt.reader()
         .take(sheet::MAX_INPUT as u64)
         .read_to_end(&mut input)?;

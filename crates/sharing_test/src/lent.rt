@@ -18,7 +18,7 @@ pub(crate) fn cut(bytes: &[u8], many: usize) -> &[u8] {
     bytes.get(..many).unwrap_or(bytes)
 }
 
-// Bytes that differ from place to place.
+// Bytes that differ from place to place. A u8 has no From of a usize.
 pub(crate) fn pattern(first: usize) -> [u8; 512] {
     let mut bytes = [0u8; 512];
     for i in 0..512 {
