@@ -13,6 +13,7 @@ use interpolation::SIDE;
 
 // Writes all shares: byte j × blocks + t of each is the value of row j of block t at its party's point. The blocks are the
 // message, the byte after it and zeros. The points are worked out once.
+#[inline(never)]
 pub(crate) fn fill_shares(source: &Source, blocks: usize, out: &mut [u8])
     requires { (blocks ≤ max_blocks) × (length out.old ≡ source.now.scheme.n * (source.now.scheme.rows * blocks)) }
     ensures { out.new ≡ filled_shares source.now blocks }

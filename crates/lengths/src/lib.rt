@@ -20,6 +20,8 @@ pub struct MessageLengths {
 }
 
 // The lengths of a message of this form. Refusals 1 to 4: those of the scheme. 5: the message is too long.
+// Inlined, so that at the default scheme its check is worked out when the library is compiled.
+#[inline(always)]
 pub fn lengths(
     form: Form,
     given: Parameters,

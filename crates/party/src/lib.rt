@@ -16,6 +16,8 @@ pub use padded::{prefix_padded, prefix_padded_length};
 // The length of the prefix for the count d of a share of a message of so many bytes. Refusals 1 to
 // 4: those of the scheme. 5: the message is too long. 6: d is not a count. 9: the share's length is
 // not that of such a message's shares.
+// Inlined, so that at the default scheme its check is worked out when the library is compiled.
+#[inline(always)]
 pub fn prefix_length(
     given: Parameters,
     message_length: usize,

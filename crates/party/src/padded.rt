@@ -9,6 +9,8 @@ use scheme::{Parameters, Refusal, padding};
 
 // The length of the prefix for the count d of a share of a padded message. Refusals 1 to 4: those of the
 // scheme. 6: d is not a count. 9: no message of an accepted length has a share of so many bytes.
+// Inlined, as that of a message of the earlier form is.
+#[inline(always)]
 pub fn prefix_padded_length(given: Parameters, d: usize, share: &[u8]) -> Result<usize, Refusal>
     ensures { outcome result ≡ prefix_padded_answer (given_parameters given.entry) d (length share.now) }
 {

@@ -18,7 +18,7 @@ mod readers;
 mod refusal;
 mod search;
 
-pub use accepted::Scheme;
+pub use accepted::{Scheme, SchemeNumbers};
 pub use forms::Form;
 pub use parameters::Parameters;
 pub use readers::{is_count, readers_refused};
